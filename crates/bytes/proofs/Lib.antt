@@ -1,0 +1,4 @@
+pub mod Walking
+pub mod Spanning
+pub mod Numbering
+pub mod Writing

@@ -1,0 +1,4 @@
+pub mod Classes
+pub mod Walks
+pub mod Spans
+pub mod Numbers

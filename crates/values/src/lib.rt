@@ -1,0 +1,4 @@
+// Days and money as records write them.
+mod calendar;
+
+pub use calendar::is_day;
