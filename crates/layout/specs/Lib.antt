@@ -1,0 +1,4 @@
+pub mod Forms
+pub mod Layouts
+pub mod Kinds
+pub mod Tables
