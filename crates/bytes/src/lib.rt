@@ -26,3 +26,6 @@ pub use walks::first_non_space;
 
 // The number of bytes in a record.
 pub const RECORD_LENGTH: usize = 128;
+
+#[cfg(test)]
+mod tests;

@@ -15,3 +15,6 @@ pub use cases::NewBalance;
 pub use cases::OldBalance;
 pub use cases::Record;
 pub use cases::Trailer;
+
+#[cfg(test)]
+mod tests;
