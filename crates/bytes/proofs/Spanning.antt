@@ -22,17 +22,17 @@ pub span-within : (xs : List ℕ) (first last end start before : ℕ) → end �
 span-within xs first last end start before e b s =
     ⊎-elim
     (λ past.
-       nil-from-length (take (end - start) (drop start xs)) (length-take (end - start) (drop start xs) ∙ omega (arith, e, b, s, past))
-       ∙ sym (nil-from-length (span xs first last) (length-take (last - (first - 1)) (drop (first - 1) xs) ∙ omega (arith, e, b, s, past, length-drop (first - 1) xs))))
+    nil-from-length (take (end - start) (drop start xs)) (length-take (end - start) (drop start xs) ∙ omega (arith, e, b, s, past))
+    ∙ sym (nil-from-length (span xs first last) (length-take (last - (first - 1)) (drop (first - 1) xs) ∙ omega (arith, e, b, s, past, length-drop (first - 1) xs))))
     (λ inside.
-       let at : start ≡ first - 1 = omega (arith, e, b, s, inside) in
-       ap (λ k. take (end - k) (drop k xs)) at
-       ∙ ⊎-elim
-         (λ short. ap (λ k. take (k - (first - 1)) (drop (first - 1) xs)) (omega (arith, e, short)))
-         (λ long.
-            take-all (end - (first - 1)) (drop (first - 1) xs) (omega (arith, e, long, length-drop (first - 1) xs))
-            ∙ sym (take-all (last - (first - 1)) (drop (first - 1) xs) (omega (arith, e, long, length-drop (first - 1) xs))))
-         (cases-lt last (length xs)))
+    let at : start ≡ first - 1 = omega (arith, e, b, s, inside) in
+    ap (λ k. take (end - k) (drop k xs)) at
+    ∙ ⊎-elim
+    (λ short. ap (λ k. take (k - (first - 1)) (drop (first - 1) xs)) (omega (arith, e, short)))
+    (λ long.
+    take-all (end - (first - 1)) (drop (first - 1) xs) (omega (arith, e, long, length-drop (first - 1) xs))
+    ∙ sym (take-all (last - (first - 1)) (drop (first - 1) xs) (omega (arith, e, long, length-drop (first - 1) xs))))
+    (cases-lt last (length xs)))
     (cases-lt end before)
 
 -- a part by position is at most as long as its positions say

@@ -78,12 +78,13 @@ passing-front test x xs n passes rest (suc k) l = rest k (omega arith)
 passed : (test : ℕ → Bool) (x : ℕ) (xs : List ℕ) (i : ℕ) (o : Option ℕ) → test x ≡ true → FirstFrom test (i + 1) xs o → FirstFrom test i (x ∷ xs) o
 passed test x xs i None passes h = passing-front test x xs (length xs) passes h
 passed test x xs i (Some j) passes h =
-    let n : j - i ≡ suc (j - (i + 1)) = omega (arith, h .0) in
-    ( omega (arith, h .0)
-    , ( omega (arith, h .0, h .1 .0)
-      , ap (λ k. test (getD (x ∷ xs) k 0)) n ∙ h .1 .1
-      , λ k l. passing-front test x xs (j - (i + 1)) passes (h .1 .2) k (omega arith)
-      )
+    let n : j - i ≡ suc (j - (i + 1)) = omega (arith, h .0) in (
+      omega (arith, h .0),
+      (
+        omega (arith, h .0, h .1 .0),
+        ap (λ k. test (getD (x ∷ xs) k 0)) n ∙ h .1 .1,
+        λ k l. passing-front test x xs (j - (i + 1)) passes (h .1 .2) k (omega arith),
+      ),
     )
 
 first-from : (test : ℕ → Bool) (i : ℕ) (bytes : List ℕ) → FirstFrom test i bytes (first-failing-from test i bytes)

@@ -87,13 +87,13 @@ digits-value bytes t =
 
 pub digits-write-numbers : Digits-write-numbers
 digits-write-numbers =
-    record
-      { below = λ bytes t. omega (arith, below-behind 0 bytes t)
-      ; wide = length-digits
-      ; only-digits = all-digits
-      ; read-back = value-digits
-      ; written-back = digits-value
-      }
+    record {
+      below = λ bytes t. omega (arith, below-behind 0 bytes t);
+      wide = length-digits;
+      only-digits = all-digits;
+      read-back = value-digits;
+      written-back = digits-value;
+    }
 
 -- writing from the right: i digits are left to write
 abbrev pub Unwritten : List ℕ → ℕ → ℕ → ℕ → Type 0

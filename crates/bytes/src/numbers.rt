@@ -45,5 +45,4 @@ pub fn write_digits(out: &mut [u8], number: u64)
 // Digits and numbers below a power of ten are the same thing, width by width.
 pub fn digits_write_numbers()
     ensures { λ _. ⌜ Digits-write-numbers ⌝ }
-{
-}
+{}

@@ -29,7 +29,12 @@ pub fn report_file(rt: &LibcRuntime, path: &str, file: &[u8], cutting: Cutting) 
     }
 }
 
-fn report_source<S: Source>(rt: &LibcRuntime, path: &str, how: &str, source: &mut S) -> io::Result<()> {
+fn report_source<S: Source>(
+    rt: &LibcRuntime,
+    path: &str,
+    how: &str,
+    source: &mut S,
+) -> io::Result<()> {
     let slots = source.count();
     println!(rt, "{path}: slots {slots}, {how}")?;
     report_survey(rt, survey_of(source))?;
@@ -59,7 +64,12 @@ fn report_damages<S: Source>(rt: &LibcRuntime, source: &mut S) -> io::Result<()>
     for i in 0..source.count() {
         let slot = i + 1;
         if let Fetched::Damaged(damage) = source.fetch(slot, &mut bytes) {
-            println!(rt, "         slot {slot} is damaged: cause {}, {}", damage.cause, damage_name(damage))?;
+            println!(
+                rt,
+                "         slot {slot} is damaged: cause {}, {}",
+                damage.cause,
+                damage_name(damage)
+            )?;
         }
     }
     Ok(())

@@ -23,11 +23,11 @@ module _ (fs : List Field) (i : ℕ) (bytes : List ℕ) where
   module _ (d : Field) (inside : i < length fs) where
     pub forming-more : is-formed bytes (field-of (getD fs i d)) ≡ true → Left → first-misformed-of (map field-of (drop (i + 1) fs)) bytes ≡ first-misformed-of (map field-of fs) bytes
     unfolding rest
-    forming-more formed left = sym (cond-true _ (rest (drop (i + 1) fs)) (Some (getD fs i d .first)) formed) ∙ (sym (at-drop-more rest fs i d inside) ∙ left)
+    forming-more formed left = sym (cond-true _ (rest (drop (i + 1) fs)) (Some (getD fs i d .0)) formed) ∙ (sym (at-drop-more rest fs i d inside) ∙ left)
 
-    pub forming-stop : is-formed bytes (field-of (getD fs i d)) ≡ false → Left → Some (getD fs i d .first) ≡ first-misformed-of (map field-of fs) bytes
+    pub forming-stop : is-formed bytes (field-of (getD fs i d)) ≡ false → Left → Some (getD fs i d .0) ≡ first-misformed-of (map field-of fs) bytes
     unfolding rest
-    forming-stop misformed left = sym (cond-false _ (rest (drop (i + 1) fs)) (Some (getD fs i d .first)) misformed) ∙ (sym (at-drop-more rest fs i d inside) ∙ left)
+    forming-stop misformed left = sym (cond-false _ (rest (drop (i + 1) fs)) (Some (getD fs i d .0)) misformed) ∙ (sym (at-drop-more rest fs i d inside) ∙ left)
 
   pub forming-end : length fs ≤ i → Left → None ≡ first-misformed-of (map field-of fs) bytes
   unfolding rest

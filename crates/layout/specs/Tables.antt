@@ -21,4 +21,4 @@ form-of (Is text) = F.Is (now text)
 form-of (OneOf choices) = F.OneOf (now choices)
 
 abbrev pub field-of : Field → L.Field
-field-of f = L.field (f .first) (f .last) (form-of (f .form))
+field-of f = L.field (f .0) (f .1) (form-of (f .2))

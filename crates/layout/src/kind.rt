@@ -48,8 +48,18 @@ pub fn kind_of(bytes: &[u8; RECORD_LENGTH]) -> Option<Kind>
     match bytes[0] {
         b'0' => Some(Kind::Header),
         b'1' => Some(Kind::OldBalance),
-        b'2' => by_article(bytes[1], Kind::Movement, Kind::MovementSecond, Kind::Counterparty),
-        b'3' => by_article(bytes[1], Kind::Information, Kind::InformationSecond, Kind::InformationThird),
+        b'2' => by_article(
+            bytes[1],
+            Kind::Movement,
+            Kind::MovementSecond,
+            Kind::Counterparty,
+        ),
+        b'3' => by_article(
+            bytes[1],
+            Kind::Information,
+            Kind::InformationSecond,
+            Kind::InformationThird,
+        ),
         b'4' => Some(Kind::FreeCommunication),
         b'8' => Some(Kind::NewBalance),
         b'9' => Some(Kind::Trailer),

@@ -14,7 +14,8 @@ use bytes::span;
 fn is_formed(field: &Field, bytes: &[u8]) -> bool
     ensures { λ r. ⌜ r ≡ is-formed (now (bytes .entry)) (field-of (now (field .entry))) ⌝ }
 {
-    holds(field.form, span(bytes, field.first, field.last))
+    let Field(first, last, form) = *field;
+    holds(form, span(bytes, first, last))
 }
 
 // The start of the leftmost of some fields that is not of its form.
@@ -23,7 +24,7 @@ pub fn first_misformed_of(fields: &[Field], bytes: &[u8]) -> Option<usize>
 {
     for field in fields {
         if !is_formed(field, bytes) {
-            return Some(field.first);
+            return Some(field.0);
         }
     }
     None

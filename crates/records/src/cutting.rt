@@ -1,20 +1,20 @@
 // Cutting the bytes of a record into its fields.
 ghost use mathlib.Core.Path.{_≡_};
 ghost use Rattle.records.specs.Fields.{kind-of-record, fields, free-fields};
-use bytes::RECORD_LENGTH;
-use layout::Kind;
-use crate::cases::Header;
-use crate::cases::OldBalance;
-use crate::cases::Movement;
-use crate::cases::MovementSecond;
 use crate::cases::Counterparty;
+use crate::cases::FreeCommunication;
+use crate::cases::Header;
 use crate::cases::Information;
 use crate::cases::InformationSecond;
 use crate::cases::InformationThird;
+use crate::cases::Movement;
+use crate::cases::MovementSecond;
 use crate::cases::NewBalance;
-use crate::cases::FreeCommunication;
-use crate::cases::Trailer;
+use crate::cases::OldBalance;
 use crate::cases::Record;
+use crate::cases::Trailer;
+use bytes::RECORD_LENGTH;
+use layout::Kind;
 
 // The fields of a record of a kind.
 pub fn cut(kind: Kind, bytes: &[u8; RECORD_LENGTH]) -> Record<'_>

@@ -2,7 +2,6 @@
 mod cases;
 mod cutting;
 
-pub use cutting::cut;
 pub use cases::Counterparty;
 pub use cases::FreeCommunication;
 pub use cases::Header;
@@ -15,6 +14,7 @@ pub use cases::NewBalance;
 pub use cases::OldBalance;
 pub use cases::Record;
 pub use cases::Trailer;
+pub use cutting::cut;
 
 #[cfg(test)]
 mod tests;

@@ -6,7 +6,8 @@ use layout::first_misformed;
 use layout::kind_of;
 use std::test::*;
 
-const MOVEMENT: [u8; RECORD_LENGTH] = *b"2100010000KLV240304000101      0000000000486750040324001500001101000002411862                                      04032404401 0";
+const MOVEMENT: [u8; RECORD_LENGTH] =
+    *b"2100010000KLV240304000101      0000000000486750040324001500001101000002411862                                      04032404401 0";
 
 #[test]
 fn a_movement_is_cut() -> Result<(), Fail> {

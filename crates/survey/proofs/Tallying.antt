@@ -43,16 +43,16 @@ unfolding tally
 turn xs ys i f old bytes same inside answers writes =
     let s = getD xs i no-slot in
     let at : slot-at ys (i + 1) ≡ Some s =
-          ap (λ l. slot-at l (i + 1)) same
-          ∙ (cond-false (eqb (i + 1) 0) None (nth xs (i + 1 - 1)) (ne-eqb (i + 1) 0 (λ e. omega arith))
-          ∙ (ap (nth xs) (omega arith) ∙ nth-getD xs i no-slot inside)) in
+    ap (λ l. slot-at l (i + 1)) same
+    ∙ (cond-false (eqb (i + 1) 0) None (nth xs (i + 1 - 1)) (ne-eqb (i + 1) 0 (λ e. omega arith))
+    ∙ (ap (nth xs) (omega arith) ∙ nth-getD xs i no-slot inside)) in
     let a : f ≡ answer (Some s) = answers ∙ ap answer at in
     let w : bytes ≡ left-in (Some s) old = writes ∙ ap (λ o. left-in o old) at in
     let e : fetched-sort f bytes ≡ sort-of s = ap (λ v. fetched-sort v bytes) a ∙ (ap (fetched-sort (answer (Some s))) w ∙ fetched-as s old) in
-    record
-      { there = λ absent. present s (sym a ∙ absent)
-      ; counted = λ sort. at-drop-more (tally sort) xs i no-slot inside ∙ ap (λ v. cond (is-same v sort) 1 0 + tally sort (drop (i + 1) xs)) (sym e)
-      }
+    record {
+      there = λ absent. present s (sym a ∙ absent);
+      counted = λ sort. at-drop-more (tally sort) xs i no-slot inside ∙ ap (λ v. cond (is-same v sort) 1 0 + tally sort (drop (i + 1) xs)) (sym e);
+    }
 
 one-or-none : (b : Bool) → cond b 1 0 ≤ 1
 one-or-none true = omega arith

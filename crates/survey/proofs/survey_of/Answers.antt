@@ -19,14 +19,14 @@ note-requires g c κs =
 
 pub loop-i-again : need.loop-i-again
 loop-i-again g c =
-    let t = turn (g .S·Source .slots (c .args .source .now)) _ (c .loop-i .i) (c .fetch-fetched .result) _ _ (c .loop-i .inv .0) (omega arith) (c .fetch-fetched .ensures .answers) (c .fetch-fetched .ensures .writes) in
-    ( c .fetch-fetched .ensures .same ∙ c .loop-i .inv .0
-    , λ sort. one-more (g .S·Source .slots (c .args .source .now)) (c .loop-i .i) _ (c .sort-of .result) _ sort _ _ t (c .sort-of .ensures) (c .note .ensures sort) (c .loop-i .inv .1 sort)
+    let t = turn (g .S·Source .slots (c .args .source .now)) _ (c .loop-i .i) (c .fetch-fetched .result) _ _ (c .loop-i .inv .0) (omega arith) (c .fetch-fetched .ensures .answers) (c .fetch-fetched .ensures .writes) in (
+      c .fetch-fetched .ensures .same ∙ c .loop-i .inv .0,
+      λ sort. one-more (g .S·Source .slots (c .args .source .now)) (c .loop-i .i) _ (c .sort-of .result) _ sort _ _ t (c .sort-of .ensures) (c .note .ensures sort) (c .loop-i .inv .1 sort),
     )
 
 pub returns : need.returns
 returns g c =
-    record
-      { counts = λ sort. omega (arith, c .loop-i .inv .1 sort, tally-none sort (g .S·Source .slots (c .args .source .now)) (c .loop-i .i) (omega arith))
-      ; same = c .loop-i .inv .0
-      }
+    record {
+      counts = λ sort. omega (arith, c .loop-i .inv .1 sort, tally-none sort (g .S·Source .slots (c .args .source .now)) (c .loop-i .i) (omega arith));
+      same = c .loop-i .inv .0;
+    }

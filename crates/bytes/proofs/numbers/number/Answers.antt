@@ -8,8 +8,8 @@ use Rattle.bytes.proofs.numbers.number.Needs as need
 pub returns : need.returns
 returns c =
     let e = c .number-of-few .ensures .value ∙ ap value (take-most (c .args .digits .now) 15 (c .min-width .result) (c .min-width .ensures)) in
-    record
-      { value = e
-      ; whole = λ few. e ∙ ap value (take-all 15 (c .args .digits .now) few)
-      ; bound = c .number-of-few .ensures .bound
-      }
+    record {
+      value = e;
+      whole = λ few. e ∙ ap value (take-all 15 (c .args .digits .now) few);
+      bound = c .number-of-few .ensures .bound;
+    }
