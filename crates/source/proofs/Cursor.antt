@@ -25,6 +25,7 @@ module _ (s : Lines) where
       (cases-lt (s .at) (length (s .file .now)))
 
   module _ (rest line : List ℕ) (next : ℕ) (cut : rest ≡ drop (s .at) (s .file .now)) (first : lines rest ≡ line ∷ lines (drop next rest)) where
+    -- the lines from the cursor on
     split : line ∷ lines (drop next rest) ≡ drop (s .passed) (lines (s .file .now))
     split = sym first ∙ (ap lines cut ∙ s .here)
 

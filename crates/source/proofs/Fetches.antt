@@ -15,6 +15,7 @@ use Rattle.source.specs.declared.source.Damage.{Damage}
 use Rattle.source.specs.declared.source.Fetched.the-variants.{Damaged, Absent}
 use Rattle.source.proofs.Numbered.{present}
 
+-- a slot is not answered as absent
 present-answers : (slot : Slot) → Absent ≡ answer (Some slot) → ⊥
 present-answers (whole bytes) e = let z : _≡_ {A = ℕ} 0 1 = cc in omega arith
 present-answers (damaged damage) e = let z : _≡_ {A = ℕ} 0 1 = cc in omega arith
@@ -23,11 +24,13 @@ present-answers (damaged damage) e = let z : _≡_ {A = ℕ} 0 1 = cc in omega a
 pub never-absent : (slots : List Slot) (n : ℕ) → 0 < n → n ≤ length slots → Absent ≡ answer (slot-at slots n) → ⊥
 never-absent slots n positive within e = present-answers _ (e ∙ ap answer (present slots n (whole []) positive within))
 
+-- a damage that is answered for a slot is its own
 sound-answers : (slot : Slot) → Sound slot → (damage : Damage) → Damaged damage ≡ answer (Some slot) → Sound (damaged damage)
 sound-answers (whole bytes) sound damage e = let z : _≡_ {A = ℕ} 0 1 = cc in absurd (omega arith)
 sound-answers (damaged found) sound damage e =
     let same : found ≡ damage = cc in subst (λ (d : Damage). Sound (damaged d)) same sound
 
+-- and for no slot none is
 absent-answers : (damage : Damage) → Damaged damage ≡ answer None → Sound (damaged damage)
 absent-answers damage e = let z : _≡_ {A = ℕ} 0 1 = cc in absurd (omega arith)
 

@@ -16,6 +16,7 @@ pub lines-feed : (x : ℕ) (xs : List ℕ) → x ≡ 10 → lines (x ∷ xs) ≡
 lines-feed x xs feed =
     cond-true (eqb x 10) ([] ∷ lines xs) (cond (eqb x 13 && feed-first xs) (lines xs) (in-front x (lines xs))) (eq-eqb x 10 feed)
 
+-- a byte that is no feed
 other : (x : ℕ) (xs : List ℕ) → (x ≡ 10 → ⊥) → lines (x ∷ xs) ≡ cond (eqb x 13 && feed-first xs) (lines xs) (in-front x (lines xs))
 other x xs no-feed =
     cond-false (eqb x 10) ([] ∷ lines xs) (cond (eqb x 13 && feed-first xs) (lines xs) (in-front x (lines xs))) (ne-eqb x 10 no-feed)
@@ -30,6 +31,7 @@ pub lines-text : (x : ℕ) (xs : List ℕ) → (x ≡ 10 → ⊥) → (eqb x 13 
 lines-text x xs no-feed text =
     other x xs no-feed ∙ cond-false (eqb x 13 && feed-first xs) (lines xs) (in-front x (lines xs)) text
 
+-- one byte on, the first feed is one place nearer
 behind : (x : ℕ) (xs : List ℕ) (end : ℕ) → FirstFeed (x ∷ xs) (suc end) → FirstFeed xs end
 behind x xs end e =
     record {

@@ -55,6 +55,7 @@ some-line x [] = omega (arith, length-one x)
 some-line x (y ∷ ys) =
     let some : 0 < length (lines (y ∷ ys)) = some-line y ys in omega (arith, length-more x (y ∷ ys) some)
 
+-- a byte is either a feed or the start of an open line
 one-or-other : (t : Bool) → 1 ≡ cond t 1 0 + cond t 0 1
 one-or-other true = refl
 one-or-other false = refl
@@ -68,17 +69,17 @@ length-lines (x ∷ y ∷ ys) zero e = absurd (omega arith)
 length-lines (x ∷ y ∷ ys) (suc k) e =
     omega (arith, length-more x (y ∷ ys) (some-line y ys), length-lines (y ∷ ys) k (omega arith), sumBy-cons one-for x (y ∷ ys))
 
--- no bytes are no line
+-- the number of lines where there are no bytes
 pub lines-none : (xs : List ℕ) → length xs ≡ 0 → length (lines xs) ≡ countBy feed xs
 lines-none [] none = refl
 lines-none (x ∷ xs) none = absurd (omega arith)
 
--- a feed comes last
+-- where a feed comes last
 pub lines-ended : (xs : List ℕ) → 0 < length xs → getD xs (length xs - 1) 0 ≡ 10 → length (lines xs) ≡ countBy feed xs
 lines-ended xs some last =
     omega (arith, length-lines xs (length xs - 1) (omega arith), cond-true {A = ℕ} (feed (getD xs (length xs - 1) 0)) 0 1 (eq-eqb _ 10 last))
 
--- another byte comes last
+-- where another byte comes last
 pub lines-open : (xs : List ℕ) → 0 < length xs → (getD xs (length xs - 1) 0 ≡ 10 → ⊥) → length (lines xs) ≡ countBy feed xs + 1
 lines-open xs some other =
     omega (arith, length-lines xs (length xs - 1) (omega arith), cond-false {A = ℕ} (feed (getD xs (length xs - 1) 0)) 0 1 (ne-eqb _ 10 other))

@@ -21,7 +21,7 @@ piece-at : (file : List ℕ) (k : ℕ) → k < length (pieces file) → getD (pi
 piece-at file k within =
     getD-map-counting (piece file) 0 ((length file + 127) / 128) k k [] (omega (arith, length-pieces file)) (omega arith)
 
--- what is left of the bytes, up to k of them
+-- up to k bytes are taken by the lesser of k and their number
 take-least : (xs : List ℕ) (k least : ℕ) → least ≡ min (length xs) k → take least xs ≡ take k xs
 take-least xs k least e =
     ⊎-elim

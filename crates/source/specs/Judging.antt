@@ -8,7 +8,7 @@ use lib.Dec.{eqb, ltb}
 use lib.ListN.{length}
 use Rattle.std.specs.shelf.Lists.{All}
 use Rattle.std.proofs.shelf.Tests.{cond-both, eqb-true}
-use Rattle.source.specs.Slots.{Slot, whole, damaged, Sound, judge}
+use Rattle.source.specs.Slots.{whole, damaged, Sound, judge}
 
 judge-sound : (bytes : List ℕ) → Sound (judge bytes)
 judge-sound bytes =

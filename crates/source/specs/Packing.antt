@@ -12,6 +12,7 @@ use Rattle.source.specs.Slots.{Slot, judge}
 abbrev pub piece : List ℕ → ℕ → List ℕ
 piece file k = take 128 (drop (k * 128) file)
 
+-- as many as cover the file
 abbrev pub pieces : List ℕ → List (List ℕ)
 pieces file = map (piece file) (counting 0 ((length file + 127) / 128))
 

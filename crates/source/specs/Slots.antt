@@ -27,5 +27,6 @@ Sound (damaged damage) = (1 ≤ damage .cause) × (damage .cause ≤ 255)
 abbrev pub judge : List ℕ → Slot
 judge bytes = cond (eqb (length bytes) 128) (whole bytes) (damaged (record { cause = cond (ltb (length bytes) 128) 1 2 }))
 
+-- there is no slot 0, and none behind the last
 abbrev pub slot-at : List Slot → ℕ → Option Slot
 slot-at slots n = cond (eqb n 0) None (nth slots (n - 1))

@@ -29,8 +29,10 @@ pub enum Fetched {
 
 // A list of slots, numbered from 1.
 pub trait Source {
+    // What the source means.
     ghost slots: { Self → List Slot };
 
+    // Every slot holds 128 bytes, or a damage with a cause from 1 to 255.
     ghost sound: { (s : Self) → All Sound (slots s) };
 
     // The number of slots.

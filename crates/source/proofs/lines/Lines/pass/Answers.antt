@@ -1,7 +1,5 @@
 use borrow.Author.Needs.{needs}
 use native.Mathlib.Omega.{arith}
-use mathlib.Core.Path.{ap}
-use lib.ListN.{length}
 use Rattle.std.proofs.shelf.Lists.{take-rest, length-drop}
 use Rattle.source.proofs.Cursor.{bytes-left, line-here, next-here}
 use Rattle.source.proofs.lines.Lines.pass.Needs as need
