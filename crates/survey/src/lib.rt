@@ -52,7 +52,8 @@ impl Survey {
         requires { ⌜ count-in (now self) sort + 1 < 2 ^ 64 ⌝ }
         ensures { λ _. ⌜ ((other : SortOf) → count-in (now (self .exit)) other ≡ cond (is-same sort other) 1 0 + count-in (now (self .entry)) other) ⌝ }
     {
-        self.counts[number(sort)] += 1;
+        let place = number(sort);
+        self.counts[place] += 1;
     }
 }
 
