@@ -1,0 +1,13 @@
+pub mod Fields
+pub mod Leaves
+pub mod Readings
+pub mod Codes
+pub mod Lawful
+pub mod Files
+pub mod Order
+pub mod Places
+pub mod Faults
+pub mod Rules
+pub mod Steps
+pub mod Theorems
+pub mod Counting

@@ -1,0 +1,4 @@
+pub mod Masks
+pub mod Balances
+pub mod Openings
+pub mod Slots
