@@ -2,7 +2,16 @@
 use crate::arguments::Cutting;
 use crate::names::KINDS;
 use crate::names::damage_name;
+use crate::names::fault_name;
 use crate::names::kind_name;
+use bytes::RECORD_LENGTH;
+use grammar::Counts;
+use grammar::FileFault;
+use reader::check;
+use reader::fault_cause;
+use reader::fault_number;
+use reader::fault_position;
+use reader::fault_record;
 use source::Fetched;
 use source::Lines;
 use source::LinesSource;
@@ -29,16 +38,30 @@ pub fn report_file(rt: &LibcRuntime, path: &str, file: &[u8], cutting: Cutting) 
     }
 }
 
-fn report_source<S: Source>(
-    rt: &LibcRuntime,
-    path: &str,
-    how: &str,
-    source: &mut S,
-) -> io::Result<()> {
+fn report_source<S: Source>(rt: &LibcRuntime, path: &str, how: &str, source: &mut S) -> io::Result<()> {
     let slots = source.count();
     println!(rt, "{path}: slots {slots}, {how}")?;
+    match check(source) {
+        Ok(counts) => report_counts(rt, counts)?,
+        Err(fault) => report_fault(rt, fault)?,
+    }
     report_survey(rt, survey_of(source))?;
     report_damages(rt, source)
+}
+
+fn report_counts(rt: &LibcRuntime, counts: Counts) -> io::Result<()> {
+    let statements = counts.statements;
+    let movements = counts.movements;
+    println!(rt, "   passes: statements {statements}, movements {movements}")
+}
+
+fn report_fault(rt: &LibcRuntime, fault: FileFault) -> io::Result<()> {
+    let number = fault_number(fault);
+    let record = fault_record(fault);
+    let position = fault_position(fault);
+    let cause = fault_cause(fault);
+    println!(rt, "   refused: {number} at record {record}, position {position}, cause {cause}")?;
+    println!(rt, "            {}", fault_name(number, position))
 }
 
 fn report_survey(rt: &LibcRuntime, survey: Survey) -> io::Result<()> {
@@ -60,7 +83,7 @@ fn report_survey(rt: &LibcRuntime, survey: Survey) -> io::Result<()> {
 }
 
 fn report_damages<S: Source>(rt: &LibcRuntime, source: &mut S) -> io::Result<()> {
-    let mut bytes = [0; 128];
+    let mut bytes = [0; RECORD_LENGTH];
     for i in 0..source.count() {
         let slot = i + 1;
         if let Fetched::Damaged(damage) = source.fetch(slot, &mut bytes) {

@@ -14,7 +14,7 @@ type Bytes = [u8; RECORD_LENGTH];
 
 impl State {
     // Before the first record.
-    pub fn new() -> State
+    pub(crate) fn new() -> State
         ensures means { λ r. ⌜ means r ≡ beginning ⌝ }
         ensures read { λ r. ⌜ r .read ≡ 0 ⌝ }
     {

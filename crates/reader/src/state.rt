@@ -4,7 +4,7 @@ ghost use lib.IntN.{natAbs};
 use grammar::Expect;
 
 #[derive(Clone, Copy)]
-pub struct State {
+pub(crate) struct State {
     pub(crate) expect: Expect,
     pub(crate) sequence: u64,
     pub(crate) detail: u64,

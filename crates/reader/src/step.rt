@@ -6,7 +6,7 @@ ghost use Rattle.grammar.specs.Steps.{take-kind, take-values, with-form, told, 
 ghost use Rattle.reader.specs.Means.{Advanced, means, meant, Stepped};
 use crate::order::may_come;
 use crate::order::may_end;
-use crate::positions::statement_position;
+use crate::numbers::statement_position;
 use crate::state::State;
 use bytes::RECORD_LENGTH;
 use bytes::first_forbidden;
@@ -90,7 +90,7 @@ fn with_form(misformed: Option<usize>, taken: Result<State, StatementFault>) -> 
 
 impl State {
     // Takes a record, or refuses it and stays where it was.
-    pub fn step(&mut self, bytes: &Bytes) -> Result<(), StatementFault>
+    pub(crate) fn step(&mut self, bytes: &Bytes) -> Result<(), StatementFault>
         requires { ⌜ now self .read < 1000000 ⌝ }
         ensures steps { λ r. ⌜ Stepped (means (now (self .entry))) (step (means (now (self .entry))) (now (bytes .entry))) (means (now (self .exit))) r ⌝ }
         ensures read { λ _. ⌜ now (self .exit) .read ≤ now (self .entry) .read + 1 ⌝ }
@@ -102,7 +102,7 @@ impl State {
     }
 
     // The counts of a file that may end here.
-    pub fn end(&self, slots: usize) -> Result<Counts, FileFault>
+    pub(crate) fn end(&self, slots: usize) -> Result<Counts, FileFault>
         ensures { λ r. ⌜ r ≡ ended slots (Ok (means (now (self .entry)))) ⌝ }
     {
         if may_end(self.expect) {
