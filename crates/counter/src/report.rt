@@ -38,7 +38,12 @@ pub fn report_file(rt: &LibcRuntime, path: &str, file: &[u8], cutting: Cutting) 
     }
 }
 
-fn report_source<S: Source>(rt: &LibcRuntime, path: &str, how: &str, source: &mut S) -> io::Result<()> {
+fn report_source<S: Source>(
+    rt: &LibcRuntime,
+    path: &str,
+    how: &str,
+    source: &mut S,
+) -> io::Result<()> {
     let slots = source.count();
     println!(rt, "{path}: slots {slots}, {how}")?;
     match check(source) {
@@ -52,7 +57,10 @@ fn report_source<S: Source>(rt: &LibcRuntime, path: &str, how: &str, source: &mu
 fn report_counts(rt: &LibcRuntime, counts: Counts) -> io::Result<()> {
     let statements = counts.statements;
     let movements = counts.movements;
-    println!(rt, "   passes: statements {statements}, movements {movements}")
+    println!(
+        rt,
+        "   passes: statements {statements}, movements {movements}"
+    )
 }
 
 fn report_fault(rt: &LibcRuntime, fault: FileFault) -> io::Result<()> {
@@ -60,7 +68,10 @@ fn report_fault(rt: &LibcRuntime, fault: FileFault) -> io::Result<()> {
     let record = fault_record(fault);
     let position = fault_position(fault);
     let cause = fault_cause(fault);
-    println!(rt, "   refused: {number} at record {record}, position {position}, cause {cause}")?;
+    println!(
+        rt,
+        "   refused: {number} at record {record}, position {position}, cause {cause}"
+    )?;
     println!(rt, "            {}", fault_name(number, position))
 }
 

@@ -85,10 +85,10 @@ unfolding open-levels
 behind-is m l r h k f e =
     let b = implied (mask-fits m l) (behind-alike m l) (at-level m l h k .1) (fits-is m l h k ∙ f) in
     let q = and-parts (sameBytes (bits-below 10 (mask-behind m l)) (levels-behind (bits-below 10 m) l)) (ltb (mask-behind m l) 1024) b in
-    record
-      { value = ap (bits-below 10) e ∙ same-lists (bits-below 10 (mask-behind m l)) (levels-behind (bits-below 10 m) l) (q .0)
-      ; bound = omega (arith, e, ltb-true (mask-behind m l) 1024 (q .1))
-      }
+    record {
+      value = ap (bits-below 10) e ∙ same-lists (bits-below 10 (mask-behind m l)) (levels-behind (bits-below 10 m) l) (q .0);
+      bound = omega (arith, e, ltb-true (mask-behind m l) 1024 (q .1));
+    }
 
 pub none-open-zero : open-levels 0 ≡ []
 unfolding open-levels

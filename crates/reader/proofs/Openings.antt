@@ -10,13 +10,13 @@ use Rattle.reader.proofs.Masks.{none-open-zero}
 
 abbrev opened : ℕ → ℕ → List ℕ → ℤ → List ℕ → Place
 opened statements movements account balance levels =
-    record
-      { expect = Opened
-      ; numbers = record { sequence = 0; detail = 0; reference = unnumbered .reference; type = 0; seven = unnumbered .seven; levels = levels }
-      ; sums = record { account = account; balance = balance; debits = 0; credits = 0; count = 1 }
-      ; statements = statements
-      ; movements = movements
-      }
+    record {
+      expect = Opened;
+      numbers = record { sequence = 0; detail = 0; reference = unnumbered .reference; type = 0; seven = unnumbered .seven; levels = levels };
+      sums = record { account = account; balance = balance; debits = 0; credits = 0; count = 1 };
+      statements = statements;
+      movements = movements;
+    }
 
 pub opened-is : (statements movements : ℕ) {account account′ : List ℕ} {balance balance′ : ℤ} → account ≡ account′ → balance ≡ balance′
     → opened statements movements account balance (open-levels 0) ≡ opened statements movements account′ balance′ []

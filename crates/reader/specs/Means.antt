@@ -26,13 +26,13 @@ mask-behind mask level = cond (eqb level 0) mask (cond (eqb (mask / 2 ^ level % 
 
 abbrev pub means : State → Place
 means s =
-    record
-      { expect = s .expect
-      ; numbers = record { sequence = s .sequence; detail = s .detail; reference = s .reference; type = s .«main_type»; seven = s .seven; levels = open-levels (s .levels) }
-      ; sums = record { account = s .account; balance = s .balance; debits = s .debits; credits = s .credits; count = s .count }
-      ; statements = s .statements
-      ; movements = s .movements
-      }
+    record {
+      expect = s .expect;
+      numbers = record { sequence = s .sequence; detail = s .detail; reference = s .reference; type = s .«main_type»; seven = s .seven; levels = open-levels (s .levels) };
+      sums = record { account = s .account; balance = s .balance; debits = s .debits; credits = s .credits; count = s .count };
+      statements = s .statements;
+      movements = s .movements;
+    }
 
 abbrev pub meant : Result State StatementFault → Result Place StatementFault
 meant (Ok s) = Ok (means s)

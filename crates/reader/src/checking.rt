@@ -22,7 +22,11 @@ use source::Source;
 pub const MOST_SLOTS: usize = 100_000;
 
 // Reads a slot that is there into `out`.
-fn read<S: Source>(source: &mut S, slot: usize, out: &mut [u8; RECORD_LENGTH]) -> Result<(), SourceFault>
+fn read<S: Source>(
+    source: &mut S,
+    slot: usize,
+    out: &mut [u8; RECORD_LENGTH],
+) -> Result<(), SourceFault>
     requires { ⌜ 0 < slot ⌝ ∗ ⌜ slot ≤ length (S·Source .slots (now source)) ⌝ }
     ensures reads { λ r. ⌜ FetchedAs slot (slot-at (S·Source .slots (now (source .entry))) slot) (now (out .exit)) r ⌝ }
     ensures same { λ _. ⌜ S·Source .slots (now (source .exit)) ≡ S·Source .slots (now (source .entry)) ⌝ }

@@ -37,7 +37,11 @@ impl State {
     }
 
     // A record that repeats the numbers of the one before, of which `continued` is the next part.
-    pub(crate) fn take_repeat(&self, bytes: &Bytes, continued: Expect) -> Result<State, StatementFault>
+    pub(crate) fn take_repeat(
+        &self,
+        bytes: &Bytes,
+        continued: Expect,
+    ) -> Result<State, StatementFault>
         requires { ⌜ now self .read < 1000000 ⌝ }
         ensures means { λ r. ⌜ meant r ≡ take-repeat (means (now (self .entry))) (now (bytes .entry)) continued ⌝ }
         ensures read { λ r. ⌜ Advanced r (now (self .entry) .read) ⌝ }

@@ -4,9 +4,9 @@ ghost use Prim.Native.Nat.{ℕ, _+_, _<_, _≤_};
 ghost use Rattle.std.specs.declared.result.Result.the-variants.{Ok};
 ghost use Rattle.grammar.specs.Steps.{take-kind, take-values, with-form, told, step, ended, counts};
 ghost use Rattle.reader.specs.Means.{Advanced, means, meant, Stepped};
+use crate::numbers::statement_position;
 use crate::order::may_come;
 use crate::order::may_end;
-use crate::numbers::statement_position;
 use crate::state::State;
 use bytes::RECORD_LENGTH;
 use bytes::first_forbidden;
@@ -71,7 +71,10 @@ impl State {
 }
 
 // The fault further left; of two at one position, that of the form.
-fn with_form(misformed: Option<usize>, taken: Result<State, StatementFault>) -> Result<State, StatementFault>
+fn with_form(
+    misformed: Option<usize>,
+    taken: Result<State, StatementFault>,
+) -> Result<State, StatementFault>
     ensures means { λ r. ⌜ meant r ≡ with-form misformed (meant taken) ⌝ }
     ensures read { λ r. ⌜ ((n : ℕ) → Advanced taken n → Advanced r n) ⌝ }
 {
@@ -106,7 +109,10 @@ impl State {
         ensures { λ r. ⌜ r ≡ ended slots (Ok (means (now (self .entry)))) ⌝ }
     {
         if may_end(self.expect) {
-            return Ok(Counts { statements: self.statements, movements: self.movements });
+            return Ok(Counts {
+                statements: self.statements,
+                movements: self.movements,
+            });
         }
         Err(FileFault::EndsEarly(slots))
     }

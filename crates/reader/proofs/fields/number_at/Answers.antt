@@ -6,7 +6,7 @@ use Rattle.reader.proofs.fields.number_at.Needs as need
 
 pub returns : need.returns
 returns c =
-    record
-      { value = c .number .ensures .whole (omega (arith, length-span (c .args .bytes .now) _ (c .args .first) (c .args .last) (c .span .ensures))) ∙ ap value (c .span .ensures)
-      ; bound = c .number .ensures .bound
-      }
+    record {
+      value = c .number .ensures .whole (omega (arith, length-span (c .args .bytes .now) _ (c .args .first) (c .args .last) (c .span .ensures))) ∙ ap value (c .span .ensures);
+      bound = c .number .ensures .bound;
+    }

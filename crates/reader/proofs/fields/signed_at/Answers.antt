@@ -15,10 +15,10 @@ pub returns : need.returns
 returns c =
     let f : SFits w64 (c .signed .result) = search needs in
     let e : toZ w64 (ofZ w64 (c .signed .result)) ≡ c .signed .result = toZ-ofZ w64 (c .signed .result) f in
-    record
-      { value =
+    record {
+      value =
           e
           ∙ (c .signed .ensures .whole (omega (arith, length-span (c .args .bytes .now) _ (c .args .first) (c .args .last) (c .span .ensures)))
-          ∙ ap (λ digits. signed (c .args .sign) (value digits)) (c .span .ensures))
-      ; bound = subst⁻¹ (λ (z : ℤ). natAbs z < 2 ^ 55) e (c .signed .ensures .bound)
-      }
+          ∙ ap (λ digits. signed (c .args .sign) (value digits)) (c .span .ensures));
+      bound = subst⁻¹ (λ (z : ℤ). natAbs z < 2 ^ 55) e (c .signed .ensures .bound);
+    }

@@ -13,7 +13,7 @@ returns c =
     let g : SFits w64 (c .signed-amount .result) = search needs in
     let h : SFits w64 (toZ w64 (ofZ w64 (c .args .self .now .balance)) +ℤ toZ w64 (ofZ w64 (c .signed-amount .result))) = search needs in
     let e = summed (c .args .self .now .balance) (c .signed-amount .result) (signed-amount (c .args .bytes .now)) f g h (c .signed-amount .ensures .value) in
-    record
-      { value = e
-      ; bound = sized (c .args .self .now .balance) (signed-amount (c .args .bytes .now)) _ (c .args .self .now .debits) (c .args .self .now .credits) (debit-of (c .args .bytes .now)) (credit-of (c .args .bytes .now)) e (c .args .self .now .«balance_bound») (amount-size (c .args .bytes .now))
-      }
+    record {
+      value = e;
+      bound = sized (c .args .self .now .balance) (signed-amount (c .args .bytes .now)) _ (c .args .self .now .debits) (c .args .self .now .credits) (debit-of (c .args .bytes .now)) (credit-of (c .args .bytes .now)) e (c .args .self .now .«balance_bound») (amount-size (c .args .bytes .now));
+    }
