@@ -1,11 +1,10 @@
 -- What a record must say where a file stands, as facts: the rules of specs/Rules without their faults.
 use mathlib.Core.Path.{_≡_}
 use mathlib.Core.Logic.{_⊎_}
-use mathlib.Core.Bool.{Bool, true}
+use mathlib.Core.Bool.{true}
 use mathlib.Core.List.{List, []}
 use Prim.Native.Nat.{ℕ, _+_, _≤_}
-use lib.IntN.{ℤ}
-use Rattle.grammar.specs.Fields.{sequence, detail, reference, link, type, level, new-account, new-amount, count, debit-sum, credit-sum}
+use Rattle.grammar.specs.Fields.{sequence, detail, reference, type, level, new-account, new-amount, count, debit-sum, credit-sum}
 use Rattle.grammar.specs.Lawful.{Bears, debit-of, credit-of, largest-sum}
 use Rattle.grammar.specs.Places.{Numbers, Sums, level-fits}
 use Rattle.grammar.specs.Rules.{succeeding, detail-type}

@@ -7,18 +7,18 @@ ghost use Rattle.grammar.specs.Fields.{reference};
 ghost use Rattle.grammar.specs.Rules.{information-rules, under};
 ghost use Rattle.grammar.specs.Steps.{after-counted, after-information, take-repeat};
 ghost use Rattle.reader.specs.Means.{Advanced, means, meant};
-use crate::fields::detail;
-use crate::fields::link;
-use crate::fields::next;
-use crate::fields::reference;
-use crate::fields::sequence;
 use crate::movement::codes_apart;
-use crate::order::behind;
 use crate::state::State;
 use bytes::RECORD_LENGTH;
 use bytes::same_bytes;
+use fields::detail;
+use fields::link;
+use fields::next;
+use fields::reference;
+use fields::sequence;
 use grammar::Expect;
 use grammar::StatementFault;
+use order::behind;
 
 type Bytes = [u8; RECORD_LENGTH];
 

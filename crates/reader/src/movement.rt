@@ -11,26 +11,26 @@ ghost use Rattle.grammar.specs.Rules.{succeeding, detail-type, in-turn, has-roo
 ghost use Rattle.grammar.specs.Steps.{after-main, after-detail, is-detail, take-movement};
 ghost use Rattle.reader.specs.Means.{Advanced, means, meant};
 ghost use Rattle.reader.specs.Tests.{apart, level-allowed};
-use crate::fields::amount;
-use crate::fields::detail;
-use crate::fields::is_debit;
-use crate::fields::level;
-use crate::fields::link;
-use crate::fields::next;
-use crate::fields::reference;
-use crate::fields::sequence;
-use crate::fields::signed_amount;
-use crate::fields::type_digit;
 use crate::levels::first_level;
 use crate::levels::level_fits;
 use crate::levels::levels_behind;
 use crate::levels::none_open;
-use crate::order::behind;
-use crate::order::is_opened;
 use crate::state::State;
 use bytes::RECORD_LENGTH;
+use fields::amount;
+use fields::detail;
+use fields::is_debit;
+use fields::level;
+use fields::link;
+use fields::next;
+use fields::reference;
+use fields::sequence;
+use fields::signed_amount;
+use fields::type_digit;
 use grammar::Expect;
 use grammar::StatementFault;
+use order::behind;
+use order::is_opened;
 
 type Bytes = [u8; RECORD_LENGTH];
 

@@ -4,10 +4,10 @@ ghost use Prim.Native.Nat.{_+_, _<_};
 ghost use Rattle.grammar.specs.Places.{beginning};
 ghost use Rattle.grammar.specs.Steps.{after-header, after-old-balance};
 ghost use Rattle.reader.specs.Means.{means};
-use crate::fields::old_account;
-use crate::fields::old_amount;
 use crate::state::State;
 use bytes::RECORD_LENGTH;
+use fields::old_account;
+use fields::old_amount;
 use grammar::Expect;
 
 type Bytes = [u8; RECORD_LENGTH];

@@ -4,9 +4,6 @@ ghost use Prim.Native.Nat.{ℕ, _+_, _<_, _≤_};
 ghost use Rattle.std.specs.declared.result.Result.the-variants.{Ok};
 ghost use Rattle.grammar.specs.Steps.{take-kind, take-values, with-form, told, step, ended, counts};
 ghost use Rattle.reader.specs.Means.{Advanced, means, meant, Stepped};
-use crate::numbers::statement_position;
-use crate::order::may_come;
-use crate::order::may_end;
 use crate::state::State;
 use bytes::RECORD_LENGTH;
 use bytes::first_forbidden;
@@ -19,6 +16,9 @@ use grammar::StatementFromRecord;
 use layout::Kind;
 use layout::first_misformed;
 use layout::kind_of;
+use order::may_come;
+use order::may_end;
+use refusals::statement_position;
 
 type Bytes = [u8; RECORD_LENGTH];
 

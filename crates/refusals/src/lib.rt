@@ -36,7 +36,7 @@ fn statement_number(fault: StatementFault) -> usize
     }
 }
 
-pub(crate) fn statement_position(fault: StatementFault) -> usize
+pub fn statement_position(fault: StatementFault) -> usize
     ensures { λ r. ⌜ r ≡ statement-position fault ⌝ }
 {
     match fault {

@@ -2,7 +2,7 @@ use native.Mathlib.Omega.{arith}
 use mathlib.Core.Path.{ap, _∙_}
 use Rattle.bytes.specs.Numbers.{value}
 use Rattle.bytes.proofs.Spanning.{length-span}
-use Rattle.reader.proofs.fields.number_at.Needs as need
+use Rattle.fields.proofs.number_at.Needs as need
 
 pub returns : need.returns
 returns c =

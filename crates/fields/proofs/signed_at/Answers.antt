@@ -9,7 +9,7 @@ use Rattle.std.proofs.shelf.Signed.{toZ-ofZ}
 use Rattle.bytes.specs.Numbers.{value}
 use Rattle.bytes.proofs.Spanning.{length-span}
 use Rattle.values.specs.Money.{signed}
-use Rattle.reader.proofs.fields.signed_at.Needs as need
+use Rattle.fields.proofs.signed_at.Needs as need
 
 pub returns : need.returns
 returns c =
