@@ -47,3 +47,10 @@ pub mod Standing
 pub mod Progress
 pub mod Reached
 pub mod Completing
+pub mod Complaining
+pub mod RulesAscend
+pub mod KindBegins
+pub mod Joining
+pub mod ByRules
+pub mod OneComplaint
+pub mod Judging

@@ -11,3 +11,4 @@ pub mod Rules
 pub mod Steps
 pub mod Theorems
 pub mod Counting
+pub mod Complaints

@@ -1,6 +1,7 @@
 // Which files are lawful, and the order machine that passes just those, as definitions and theorems.
 mod expect;
 mod faults;
+mod refusals;
 
 pub use expect::Expect;
 pub use faults::Counts;
@@ -12,3 +13,4 @@ pub use faults::RecordFault;
 pub use faults::SourceFault;
 pub use faults::StatementFault;
 pub use faults::StatementFromRecord;
+pub use refusals::refusals_are_least;

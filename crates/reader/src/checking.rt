@@ -3,6 +3,7 @@ ghost use mathlib.Core.Path.{_≡_};
 ghost use Prim.Native.Nat.{_<_, _≤_};
 ghost use lib.ListN.{length};
 ghost use Rattle.source.specs.Slots.{slot-at};
+ghost use Rattle.grammar.specs.Complaints.{Refusals-are-least};
 ghost use Rattle.grammar.specs.Steps.{checked};
 ghost use Rattle.grammar.specs.Theorems.{Checks};
 ghost use Rattle.reader.specs.Reads.{FetchedAs, placed};
@@ -52,6 +53,7 @@ fn locate(slot: usize, stepped: Result<(), StatementFault>) -> Result<(), Locate
 pub fn check<S: Source>(source: &mut S) -> Result<Counts, FileFault>
     ensures answers { λ r. ⌜ r ≡ checked (S·Source .slots (now (source .entry))) ⌝ }
     ensures law { λ _. ⌜ Checks (S·Source .slots (now (source .entry))) ⌝ }
+    ensures least { λ _. ⌜ Refusals-are-least ⌝ }
     ensures same { λ _. ⌜ S·Source .slots (now (source .exit)) ≡ S·Source .slots (now (source .entry)) ⌝ }
 {
     let slots = source.count();

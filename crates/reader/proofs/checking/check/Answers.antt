@@ -9,6 +9,7 @@ use Rattle.grammar.specs.declared.faults.FileFault.the-variants.{Source, Statem
 use Rattle.grammar.specs.Places.{Place}
 use Rattle.grammar.specs.Steps.{run, ended}
 use Rattle.grammar.proofs.Completing.{the-check}
+use Rattle.grammar.proofs.Judging.{refusals-are-least}
 use Rattle.reader.specs.Means.{means}
 use Rattle.reader.specs.Reads.{FetchedAs, placed}
 use Rattle.reader.proofs.Slots.{turn-unread, turn-refused, turn-taken, checked-is, checked-many, run-end}
@@ -19,6 +20,7 @@ returns-then-slots-gt-MOST-SLOTS g c =
     record {
       answers = sym (checked-many (g .S·Source .slots (c .args .source .now)) (omega (arith, c .count-slots .ensures)));
       law = the-check (g .S·Source .slots (c .args .source .now)) (g .S·Source .sound (c .args .source .now));
+      least = refusals-are-least;
       same = refl;
     }
 
@@ -38,6 +40,7 @@ returns-in-Break-read g c =
     record {
       answers = (p .1 ∙ ap Err (p .2)) ∙ sym (checked-is xs (Err (Source f)) (omega (arith, c .count-slots .ensures)) (sym e ∙ c .loop-i .inv .1));
       law = the-check (g .S·Source .slots (c .args .source .now)) (g .S·Source .sound (c .args .source .now));
+      least = refusals-are-least;
       same = c .read .ensures .same ∙ c .loop-i .inv .0;
     }
 
@@ -53,6 +56,7 @@ returns-in-Break-locate g c =
     record {
       answers = (p .1 ∙ ap Err (p .2)) ∙ sym (checked-is xs (Err (Statement l)) (omega (arith, c .count-slots .ensures)) (sym e ∙ c .loop-i .inv .1));
       law = the-check (g .S·Source .slots (c .args .source .now)) (g .S·Source .sound (c .args .source .now));
+      least = refusals-are-least;
       same = c .read .ensures .same ∙ c .loop-i .inv .0;
     }
 
@@ -78,5 +82,6 @@ returns g c =
           ∙ (ap (λ (k : ℕ). ended (k + 1) (Ok (means (c .loop-i .state)))) (c .count-slots .ensures)
           ∙ sym (checked-is xs (Ok (means (c .loop-i .state))) (omega (arith, c .count-slots .ensures)) (sym (run-end xs (c .loop-i .i) (c .loop-i .i + 1) (means (c .loop-i .state)) passed) ∙ c .loop-i .inv .1)));
       law = the-check (g .S·Source .slots (c .args .source .now)) (g .S·Source .sound (c .args .source .now));
+      least = refusals-are-least;
       same = c .loop-i .inv .0;
     }
