@@ -1,4 +1,6 @@
 // What a cash book is: its meaning, its calls, its refusals; and the numbers that every book keeps.
+#![tactic(auto)]
+
 mod book;
 mod counts;
 mod fault;

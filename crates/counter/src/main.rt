@@ -1,6 +1,8 @@
 // The counter program: `counter check [--packed | --lines] FILE...` reports on files, and
 // `counter book [--image | --table] [--capacity N] SCRIPT...` runs the calls of scripts on cash books.
 // Both may stand in one command line, each for the files behind it.
+#![tactic(auto)]
+
 mod arguments;
 mod books;
 mod calls;

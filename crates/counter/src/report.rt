@@ -1,9 +1,9 @@
 // What is printed of a file.
 use crate::arguments::Cutting;
 use crate::names::{KINDS, damage_name, fault_name, kind_name};
-use recordbytes::RECORD_LENGTH;
 use grammar::{Counts, FileFault};
 use reader::check;
+use recordbytes::RECORD_LENGTH;
 use refusals::{fault_cause, fault_number, fault_position, fault_record};
 use source::{Fetched, Lines, Packed, Source};
 use std::io;

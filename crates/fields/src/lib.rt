@@ -1,4 +1,6 @@
 // What records say, read by position, whatever their bytes are.
+#![tactic(auto)]
+
 ghost use Rattle.std.specs.Prelude.{◌≡◌, ◌+◌, ◌^◌, ◌<◌, ◌≤◌, length, unsigned_abs};
 ghost use Rattle.recordbytes.specs.Numbers.{value as value_of_lem};
 ghost use Rattle.recordbytes.specs.Spans.{span as span_of};

@@ -1,4 +1,6 @@
 // Which files are lawful, and the order machine that passes just those, as definitions and theorems.
+#![tactic(auto)]
+
 mod expect;
 mod faults;
 mod refusals;

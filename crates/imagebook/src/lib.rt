@@ -1,4 +1,6 @@
 // The cash book on the caller's bytes: a header, and rows of 256 bytes behind it.
+#![tactic(auto)]
+
 mod book;
 mod image;
 

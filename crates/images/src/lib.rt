@@ -1,4 +1,6 @@
 // The bytes of an image: a header, and rows of 256 bytes behind it.
+#![tactic(auto)]
+
 mod headers;
 mod laws;
 

@@ -1,4 +1,6 @@
 // The layouts of the eleven records: their kinds, the forms of their fields, and which field is not of its form.
+#![tactic(auto)]
+
 mod form;
 mod kind;
 mod misformed;

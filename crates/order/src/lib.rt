@@ -1,4 +1,6 @@
 // Which kind of record may come where, and what may come behind it.
+#![tactic(auto)]
+
 ghost use Rattle.std.specs.Prelude.{◌≡◌};
 ghost use Rattle.grammar.specs.Order.{may_come, behind, behind_closing, behind_trailer, is_opened, is_first_communication, may_end};
 

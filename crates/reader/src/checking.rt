@@ -7,8 +7,8 @@ ghost use Rattle.grammar.specs.Theorems.{Checks};
 ghost use Rattle.reader.specs.Reads.{FetchedAs, placed};
 
 use crate::state::State;
-use recordbytes::RECORD_LENGTH;
 use grammar::{Counts, FileFault, Located, SourceFault, StatementFault};
+use recordbytes::RECORD_LENGTH;
 use source::{Fetched, Source};
 
 // The most slots that a file may have.

@@ -10,12 +10,12 @@ ghost use Rattle.reader.specs.Tests.{communication_sequence, communication_numbe
 use crate::levels::none_open;
 use crate::movement::successor;
 use crate::state::State;
-use recordbytes::{RECORD_LENGTH, same_bytes};
 use fields::{
     another, count, credit_sum, debit_sum, detail, link, new_account, new_amount, sequence,
 };
 use grammar::{Expect, StatementFault};
 use order::{behind_closing, behind_trailer, is_first_communication, is_opened};
+use recordbytes::{RECORD_LENGTH, same_bytes};
 
 type Bytes = [u8; RECORD_LENGTH];
 

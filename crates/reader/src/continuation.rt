@@ -8,10 +8,10 @@ ghost use Rattle.reader.specs.Means.{Advanced, means, meant};
 
 use crate::movement::codes_apart;
 use crate::state::State;
-use recordbytes::{RECORD_LENGTH, same_bytes};
 use fields::{detail, link, next, reference, sequence};
 use grammar::{Expect, StatementFault};
 use order::behind;
+use recordbytes::{RECORD_LENGTH, same_bytes};
 
 type Bytes = [u8; RECORD_LENGTH];
 

@@ -1,4 +1,6 @@
 // The order machine, a record after the other, each taken or refused; and the check of a file by it.
+#![tactic(auto)]
+
 mod checking;
 mod closing;
 mod continuation;

@@ -10,12 +10,12 @@ ghost use Rattle.reader.specs.Tests.{apart, level_allowed};
 
 use crate::levels::{first_level, level_fits, levels_behind, none_open};
 use crate::state::State;
-use recordbytes::RECORD_LENGTH;
 use fields::{
     amount, detail, is_debit, level, link, next, reference, sequence, signed_amount, type_digit,
 };
 use grammar::{Expect, StatementFault};
 use order::{behind, is_opened};
+use recordbytes::RECORD_LENGTH;
 
 type Bytes = [u8; RECORD_LENGTH];
 

@@ -5,9 +5,9 @@ ghost use Rattle.grammar.specs.Steps.{after_header, after_old_balance};
 ghost use Rattle.reader.specs.Means.{means};
 
 use crate::state::State;
-use recordbytes::RECORD_LENGTH;
 use fields::{old_account, old_amount};
 use grammar::Expect;
+use recordbytes::RECORD_LENGTH;
 
 type Bytes = [u8; RECORD_LENGTH];
 

@@ -4,10 +4,10 @@ ghost use Rattle.grammar.specs.Steps.{take_kind, take_values, with_form, told, s
 ghost use Rattle.reader.specs.Means.{Advanced, means, meant, Stepped};
 
 use crate::state::State;
-use recordbytes::{RECORD_LENGTH, first_forbidden};
 use grammar::{Counts, Expect, FileFault, RecordFault, StatementFault};
 use layout::{Kind, first_misformed, kind_of};
 use order::{may_come, may_end};
+use recordbytes::{RECORD_LENGTH, first_forbidden};
 use refusals::statement_position;
 
 type Bytes = [u8; RECORD_LENGTH];

@@ -1,4 +1,6 @@
 // Bytes of a record: what a byte may be, walks over bytes, parts by their positions, numbers in digits.
+#![tactic(auto)]
+
 mod class;
 mod numbers;
 mod spans;

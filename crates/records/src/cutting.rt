@@ -6,8 +6,8 @@ use crate::cases::{
     Counterparty, FreeCommunication, Header, Information, InformationSecond, InformationThird,
     Movement, MovementSecond, NewBalance, OldBalance, Record, Trailer,
 };
-use recordbytes::RECORD_LENGTH;
 use layout::Kind;
+use recordbytes::RECORD_LENGTH;
 
 // The fields of a record of a kind.
 pub fn cut(kind: Kind, bytes: &[u8; RECORD_LENGTH]) -> Record<'_>

@@ -1,4 +1,6 @@
 // Records cut into their fields.
+#![tactic(auto)]
+
 mod cases;
 mod cutting;
 

@@ -1,6 +1,6 @@
 use crate::*;
-use recordbytes::{RECORD_LENGTH, same_bytes};
 use layout::{Kind, first_misformed, kind_of};
+use recordbytes::{RECORD_LENGTH, same_bytes};
 use std::test::Fail;
 
 const MOVEMENT: [u8; RECORD_LENGTH] =

@@ -1,4 +1,6 @@
 // The numbers of a fault: its own, its record, its position and its cause; what is not given is 0.
+#![tactic(auto)]
+
 ghost use Rattle.std.specs.Prelude.{◌≡◌};
 ghost use Rattle.grammar.specs.Faults.{record_number, record_position, statement_number, statement_position, fault_number as number_of_lem, fault_record as record_of, fault_position as position_of, fault_cause as cause_of};
 

@@ -1,4 +1,6 @@
 // A row as 256 bytes.
+#![tactic(auto)]
+
 mod accounts;
 mod joins;
 mod laws;

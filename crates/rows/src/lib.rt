@@ -1,4 +1,6 @@
 // The rows of a cash book: their fields, and the test that makes fields a row.
+#![tactic(auto)]
+
 mod account;
 mod fields;
 mod formed;

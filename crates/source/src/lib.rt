@@ -1,4 +1,6 @@
 // Where records come from: a source is a list of slots, cut from the bytes of a file in one of two ways.
+#![tactic(auto)]
+
 mod deliver;
 mod lines;
 mod packed;

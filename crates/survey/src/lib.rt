@@ -1,12 +1,14 @@
 // What the slots of a source hold, counted by sort.
+#![tactic(auto)]
+
 ghost use Rattle.std.specs.Prelude.{◌≡◌, ℕ, ◌+◌, ◌^◌, ◌<◌, length, if◌then◌else◌, ◌≢◌};
 ghost use Rattle.source.specs.declared.source.Fetched.TheVariants.{Absent};
 ghost use Rattle.survey.specs.declared.Sort.{Sort as SortOf};
 ghost use Rattle.survey.specs.Sorts.{number as number_of_lem, is_same, sort_by, tally, count_in};
 ghost use Rattle.survey.specs.Fetches.{fetched_sort};
 
-use recordbytes::RECORD_LENGTH;
 use layout::{Kind, kind_of};
+use recordbytes::RECORD_LENGTH;
 use source::{Fetched, Source};
 
 // What a slot holds: a record of a kind, a record of no known kind, or a damage.

@@ -1,4 +1,6 @@
 // Days and money as records write them.
+#![tactic(auto)]
+
 mod calendar;
 mod day;
 mod laws;
