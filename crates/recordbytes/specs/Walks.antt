@@ -1,7 +1,7 @@
 -- Walks over bytes.
 --   all             every byte passes a test, or every element of another list
 --   first_failing   the place, counted from 0, of the first byte that fails a test
-use Rattle.std.specs.Prelude.{◌≡◌, ℕ, suc, ◌+◌, ◌<◌, Bool, true, false, cond, ◌&&◌, List, [], ◌∷◌, length, Some, None, Option, slice_index}
+use Rattle.std.specs.Prelude.{◌≡◌, ℕ, ◌+◌, ◌<◌, Bool, true, false, cond, ◌&&◌, List, [], ◌∷◌, length, Some, None, Option, slice_index}
 
 abbrev pub all : {X : Type 0} → (X → Bool) → List X → Bool
 all test [] = true

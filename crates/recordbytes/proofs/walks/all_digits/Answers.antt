@@ -3,4 +3,4 @@ use Rattle.recordbytes.proofs.Walking.{none_all}
 use Rattle.recordbytes.proofs.walks.all_digits.Goals as goal
 
 pub returns : goal.returns
-returns c = none_all is_digit c.args.bytes.now c.first-non-digit.result c.is-none.result c.first-non-digit.ensures.value c.is-none.ensures
+returns c = none_all is_digit c.args.bytes.now c.first_non_digit.result c.is_none.result c.first_non_digit.ensures.value c.is_none.ensures
