@@ -7,7 +7,7 @@
 --   Sound        what every book keeps to
 use Rattle.std.specs.Prelude.{◌≡◌, ℕ, ◌+◌, ◌-◌, ◌≤◌, Bool, true, List, [], ◌++◌, length, is_some, Option}
 use Rattle.std.specs.Option.{unwrap_or}
-use Rattle.recordbytes.specs.Walks.{all}
+use Rattle.recordbytes.specs.Each.{every}
 use Rattle.rows.specs.Rows.{is_row}
 use Rattle.rows.specs.declared.fields.Fields.{Fields}
 
@@ -33,7 +33,7 @@ free_rows b = b.capacity - (length b.kept + length (batch_rows b))
 
 -- each of some fields are those of a row
 abbrev pub are_rows : List Fields → Bool
-are_rows rows = all is_row rows
+are_rows rows = every is_row rows
 
 pub record Sound (b : Meaning) : Type 0 where
   pub small : b.capacity ≤ 100000

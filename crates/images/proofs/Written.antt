@@ -2,7 +2,7 @@
 use Rattle.std.proofs.Common.{◌≡◌, ℕ, zero, suc, ◌+◌, ◌*◌, ◌<◌, ◌≤◌, Bool, true, ◌&&◌, List, [], ◌∷◌, ◌++◌, map, length, take, drop, set, Option, sym, refl, ap, ◌∙◌, arith, take-add}
 use Rattle.std.proofs.lemmas.List.{length-map, take_at, drop_at, take-map, take_all, map-set, append_assoc}
 use Rattle.std.proofs.lemmas.Bool.{and_parts, and_from}
-use Rattle.recordbytes.proofs.Each.{all_at, all_fewer, all_more}
+use Rattle.recordbytes.proofs.Each.{every_at, every_fewer, every_more}
 use Rattle.rows.specs.Rows.{is_row}
 use Rattle.rows.specs.declared.fields.Fields.{Fields}
 use Rattle.cashbook.specs.Counting.{figure, figures_of, used, counted}
@@ -92,12 +92,12 @@ images_read_back b behind t =
 pub piece_written : (n i : ℕ) (bytes : List ℕ) → i < n → are_written (pieces n bytes) ≡ true → is_row_bytes (piece i bytes) ≡ true
 piece_written n i bytes inside t =
     let long = length_pieces n bytes in
-    sym (ap is_row_bytes (piece_at n i bytes [] inside)) ∙ all_at is_row_bytes n i (pieces n bytes) [] inside (omega arith) (ap are_written (take_all n (pieces n bytes) (omega arith)) ∙ t)
+    sym (ap is_row_bytes (piece_at n i bytes [] inside)) ∙ every_at is_row_bytes n i (pieces n bytes) [] inside (omega arith) (ap are_written (take_all n (pieces n bytes) (omega arith)) ∙ t)
 
 -- the first of more pieces that are written
 pub first_written : (capacity all n : ℕ) (bytes : List ℕ) → n ≤ all → all ≤ capacity → are_written (take all (pieces capacity bytes)) ≡ true → are_written (pieces n bytes) ≡ true
 first_written capacity all n bytes fewer room t =
-    sym (ap are_written (pieces_fewer capacity n bytes (omega arith))) ∙ all_fewer is_row_bytes all n (pieces capacity bytes) fewer t
+    sym (ap are_written (pieces_fewer capacity n bytes (omega arith))) ∙ every_fewer is_row_bytes all n (pieces capacity bytes) fewer t
 
 -- a row more
 module _ (i : ℕ) (row : Fields) (bytes : List ℕ) (room : row_offset (i + 1) ≤ length bytes) (is : is_row row ≡ true) where
@@ -109,4 +109,4 @@ module _ (i : ℕ) (row : Fields) (bytes : List ℕ) (room : row_offset (i + 1) 
   pub written_put_row : (n : ℕ) → i < n → are_written (take i (pieces n bytes)) ≡ true → are_written (take (i + 1) (pieces n (put_row i (row_bytes row) bytes))) ≡ true
   written_put_row n inside t =
       ap (λ (some : List (List ℕ)). are_written (take (i + 1) some)) (pieces_put_row i (row_bytes row) bytes room (rows_read_back.wide row is) n)
-      ∙ all_more is_row_bytes i (pieces n bytes) (row_bytes row) (omega (arith, length_pieces n bytes)) (rows_read_back.is_written row is) t
+      ∙ every_more is_row_bytes i (pieces n bytes) (row_bytes row) (omega (arith, length_pieces n bytes)) (rows_read_back.is_written row is) t

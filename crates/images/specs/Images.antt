@@ -8,7 +8,7 @@
 --   put_row       an image with the bytes of row n replaced, n counted from 0
 --   put_header    an image with its header replaced, where it has room for one
 use Rattle.std.specs.Prelude.{◌≡◌, ℕ, zero, suc, ◌+◌, ◌-◌, ◌/◌, ◌≤◌, min, Bool, true, cond, List, [], ◌∷◌, ◌++◌, map, length, take, drop, nat_le}
-use Rattle.recordbytes.specs.Walks.{all}
+use Rattle.recordbytes.specs.Each.{every}
 use Rattle.rows.specs.declared.fields.Fields.{Fields}
 use Rattle.cashbook.specs.Counting.{Figures, figures_of}
 use Rattle.cashbook.specs.Meaning.{Meaning, all_rows, are_rows}
@@ -31,7 +31,7 @@ abbrev pub image_rows : ℕ → List ℕ → List Fields
 image_rows n bytes = map row_read (pieces n bytes)
 
 abbrev pub are_written : List (List ℕ) → Bool
-are_written some = all is_row_bytes some
+are_written some = every is_row_bytes some
 
 abbrev pub image_of : Meaning → List ℕ
 image_of b = header (figures_of b) ++ joined (map row_bytes (all_rows b))

@@ -3,3 +3,4 @@ pub mod Walks
 pub mod Spans
 pub mod Numbers
 pub mod Joins
+pub mod Each

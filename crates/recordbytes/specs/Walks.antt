@@ -1,11 +1,11 @@
 -- Walks over bytes.
---   all             every byte passes a test, or every element of another list
+--   all             every byte passes a test
 --   first_failing   the place, counted from 0, of the first byte that fails a test
 use Rattle.std.specs.Prelude.{◌≡◌, ℕ, ◌+◌, ◌<◌, Bool, true, false, cond, ◌&&◌, List, [], ◌∷◌, length, Some, None, Option, slice_index}
 
-abbrev pub all : {X : Type 0} → (X → Bool) → List X → Bool
+abbrev pub all : (ℕ → Bool) → List ℕ → Bool
 all test [] = true
-all test (first ∷ rest) = test first && all test rest
+all test (byte ∷ rest) = test byte && all test rest
 
 -- the same place, counted from i
 abbrev pub first_failing_from : (ℕ → Bool) → ℕ → List ℕ → Option ℕ

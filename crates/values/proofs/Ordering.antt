@@ -7,7 +7,6 @@ use Rattle.recordbytes.specs.Classes.{is_digit}
 use Rattle.recordbytes.specs.Numbers.{value, digits}
 use Rattle.recordbytes.specs.Spans.{span}
 use Rattle.recordbytes.specs.Walks.{all}
-use Rattle.recordbytes.proofs.Each.{all_take, all_drop}
 use Rattle.recordbytes.proofs.Writing.{digits_write_numbers}
 use Rattle.values.specs.declared.calendar.Date.{Date}
 use Rattle.values.specs.Days.{date_of, is_date, is_day, is_before, DaysAreOrdered}
@@ -20,6 +19,17 @@ before_onward d e f p q = grind (arith, nat_tests)
 
 same_date : (d e : Date) → is_before d e ≡ false → is_before e d ≡ false → (d.year ≡ e.year) × (d.month ≡ e.month) × (d.day ≡ e.day)
 same_date d e p q = (grind (arith, nat_tests), grind (arith, nat_tests), grind (arith, nat_tests))
+
+-- what every byte passes, every byte of a part passes
+all_take : (test : ℕ → Bool) (n : ℕ) (bytes : List ℕ) → all test bytes ≡ true → all test (take n bytes) ≡ true
+all_take test zero bytes t = refl
+all_take test (suc n) [] t = refl
+all_take test (suc n) (x ∷ xs) t = let h = and_parts (test x) (all test xs) t in and_from (test x) (all test (take n xs)) h.0 (all_take test n xs h.1)
+
+all_drop : (test : ℕ → Bool) (n : ℕ) (bytes : List ℕ) → all test bytes ≡ true → all test (drop n bytes) ≡ true
+all_drop test zero bytes t = t
+all_drop test (suc n) [] t = refl
+all_drop test (suc n) (x ∷ xs) t = all_drop test n xs (and_parts (test x) (all test xs) t).1
 
 -- six bytes are three parts of two
 three_parts : (bytes : List ℕ) → length bytes ≡ 6 → bytes ≡ span bytes 1 2 ++ (span bytes 3 4 ++ span bytes 5 6)

@@ -1,6 +1,6 @@
 use Rattle.std.proofs.Common.{◌≡◌, ◌<◌, ◌≤◌, length, get_or, Some, sym, ap, ◌∙◌, arith, rules}
 use Rattle.rows.specs.Rows.{is_row}
-use Rattle.recordbytes.proofs.Each.{all_at}
+use Rattle.recordbytes.proofs.Each.{every_at}
 use Rattle.tablebook.proofs.Stepping.{few, found_inside, place_in, latest_at_place, latest_nowhere}
 use Rattle.tablebook.proofs.memory.Memory.latest_kept.Goals as goal
 
@@ -26,7 +26,7 @@ row-requires c =
     let m = c.args.self.now in
     let i = found_inside m.rows.now c.args.count c.args.accounts m.places.now c.requires.inside.0 c.requires.step c.args.account.now c.in-Some.j c.in-Some.ensures in
     let p = place_in m.rows.now c.args.count c.args.accounts m.places.now c.requires.inside.0 c.requires.step c.in-Some.j i in
-    (omega arith, λ d. all_at is_row c.args.count (get_or m.places.now c.in-Some.j 0) m.rows.now d (omega arith) c.requires.inside.0 c.requires.fine)
+    (omega arith, λ d. every_at is_row c.args.count (get_or m.places.now c.in-Some.j 0) m.rows.now d (omega arith) c.requires.inside.0 c.requires.fine)
 
 pub returns-in-Some : goal.returns-in-Some
 returns-in-Some c =

@@ -1,5 +1,5 @@
 use Rattle.std.proofs.Common.{◌≡◌, ◌≤◌, Ok, ap, ◌∙◌, arith}
-use Rattle.recordbytes.proofs.Each.{all_fewer}
+use Rattle.recordbytes.proofs.Each.{every_fewer}
 use Rattle.cashbook.specs.Counting.{figures, used}
 use Rattle.cashbook.proofs.Counting.{cancelled_done, cancelled_numbers}
 use Rattle.rowbytes.specs.RowBytes.{is_row_bytes}
@@ -13,7 +13,7 @@ invariant-of-self c =
     let s = c.args.self.now in
     let n = cancelled_numbers s.counts.capacity s.counts.kept s.counts.batch (figures c.in-ok-cancelled.cancelled) c.in-ok-cancelled.ensures in
     stands (figures c.in-ok-cancelled.cancelled) _ _ _ n (memory s) c.put_header.new.self.bytes.now c.put_header.ensures s.backed
-    (all_fewer is_row_bytes (used (figures s.counts)) s.counts.kept (pieces s.counts.capacity (memory s)) (omega arith) s.exact)
+    (every_fewer is_row_bytes (used (figures s.counts)) s.counts.kept (pieces s.counts.capacity (memory s)) (omega arith) s.exact)
 
 pub returns : goal.returns
 returns c =

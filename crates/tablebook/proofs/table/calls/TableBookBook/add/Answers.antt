@@ -6,7 +6,7 @@ use Rattle.cashbook.specs.Counting.{figures, used, counted}
 use Rattle.cashbook.specs.Meaning.{all_rows, are_rows}
 use Rattle.cashbook.proofs.Counting.{Added, added_refused, added_done, all_long, left_by_refusal, left_by_call}
 use Rattle.rows.specs.Rows.{is_row}
-use Rattle.recordbytes.proofs.Each.{all_more}
+use Rattle.recordbytes.proofs.Each.{every_more}
 use Rattle.tablebook.specs.Held.{InStep}
 use Rattle.tablebook.specs.Memory.{means_of, rows_in}
 use Rattle.tablebook.proofs.Standing.{stands}
@@ -35,7 +35,7 @@ invariant-of-self c =
     let many : length c.write.new.self.places.now ≡ length s.memory.places.now = ap length places in
     let backed = s.backed in
     let placed = s.placed in
-    let fine = all_more is_row all s.memory.rows.now c.fields.result (omega arith) c.fields.ensures.fine s.fine in
+    let fine = every_more is_row all s.memory.rows.now c.fields.result (omega arith) c.fields.ensures.fine s.fine in
     let step = step_behind s.memory.rows.now s.counts.kept all c.fields.result s.accounts s.memory.places.now (omega arith) s.step in
     stands (figures c.in-ok-counts.counts) c.write.new.self.rows.now s.accounts c.write.new.self.places.now _ _ _ a.numbers_are (omega arith) (omega arith)
     (subst (λ (rs : List Fields). are_rows (take (all + 1) rs) ≡ true) (sym rows) fine)

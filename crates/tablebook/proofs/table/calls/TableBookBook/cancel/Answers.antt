@@ -2,7 +2,7 @@ use Rattle.std.proofs.Common.{◌≡◌, ℕ, ◌≤◌, Ok, refl, ap, ◌∙◌
 use Rattle.cashbook.specs.Counting.{figures, used}
 use Rattle.cashbook.proofs.Counting.{cancelled_done, cancelled_numbers}
 use Rattle.rows.specs.Rows.{is_row}
-use Rattle.recordbytes.proofs.Each.{all_fewer}
+use Rattle.recordbytes.proofs.Each.{every_fewer}
 use Rattle.tablebook.proofs.Standing.{stands}
 use Rattle.tablebook.proofs.table.calls.TableBookBook.cancel.Goals as goal
 
@@ -10,7 +10,7 @@ pub invariant-of-self : goal.invariant-of-self
 invariant-of-self c =
     let s = c.args.self.now in
     let n = cancelled_numbers s.counts.capacity s.counts.kept s.counts.batch (figures c.in-ok-counts.counts) c.in-ok-counts.ensures in
-    stands (figures c.in-ok-counts.counts) s.memory.rows.now s.accounts s.memory.places.now _ _ _ n s.backed s.placed (all_fewer is_row (used (figures s.counts)) s.counts.kept s.memory.rows.now (omega arith) s.fine) s.step
+    stands (figures c.in-ok-counts.counts) s.memory.rows.now s.accounts s.memory.places.now _ _ _ n s.backed s.placed (every_fewer is_row (used (figures s.counts)) s.counts.kept s.memory.rows.now (omega arith) s.fine) s.step
 
 pub returns : goal.returns
 returns c =

@@ -3,7 +3,7 @@ use Rattle.cashbook.specs.Counting.{figures, used}
 use Rattle.cashbook.proofs.Answering.{found, missed}
 use Rattle.cashbook.proofs.Counting.{kept_row_at, no_row}
 use Rattle.rows.specs.Rows.{is_row}
-use Rattle.recordbytes.proofs.Each.{all_at}
+use Rattle.recordbytes.proofs.Each.{every_at}
 use Rattle.tablebook.proofs.table.calls.TableBookBook.kept_row.Goals as goal
 
 pub returns-then-n-eq0 : goal.returns-then-n-eq0
@@ -21,7 +21,7 @@ row-requires c =
     let k = c.kept-kept.ensures in
     let room = s.counts.room in
     let backed = s.backed in
-    (omega arith, λ d. all_at is_row (used (figures s.counts)) (c.args.n - 1) s.memory.rows.now d (omega arith) (omega arith) s.fine)
+    (omega arith, λ d. every_at is_row (used (figures s.counts)) (c.args.n - 1) s.memory.rows.now d (omega arith) (omega arith) s.fine)
 
 pub returns : goal.returns
 returns c =

@@ -2,7 +2,7 @@ use Rattle.std.proofs.Common.{◌≡◌, ℕ, true, take, sym, subst, arith}
 use Rattle.cashbook.specs.Counting.{figures, used}
 use Rattle.cashbook.specs.Meaning.{are_rows}
 use Rattle.rows.specs.Rows.{is_row}
-use Rattle.recordbytes.proofs.Each.{all_fewer}
+use Rattle.recordbytes.proofs.Each.{every_fewer}
 use Rattle.tablebook.specs.Held.{InStep}
 use Rattle.tablebook.proofs.table.calls.TableBookBook.latest_kept.Goals as goal
 
@@ -16,5 +16,5 @@ latest-kept-requires c =
     record {
       inside = (omega arith, omega arith);
       step = subst (λ n. InStep (take n s.memory.rows.now) s.accounts s.memory.places.now) (sym kept.value) s.step;
-      fine = all_fewer is_row (used (figures s.counts)) c.kept-kept.result s.memory.rows.now (omega arith) s.fine;
+      fine = every_fewer is_row (used (figures s.counts)) c.kept-kept.result s.memory.rows.now (omega arith) s.fine;
     }
