@@ -3,8 +3,8 @@ use Rattle.std.proofs.lemmas.Int.{to_z-of_z}
 use Rattle.values.proofs.Amounts.{read_is_amount}
 use Rattle.values.proofs.money.Money.read.Goals as goal
 
-pub invariant-of-result : goal.invariant-of-result
-invariant-of-result c =
+pub invariant_of-result : goal.invariant_of-result
+invariant_of-result c =
     let f : SFits w64 c.signed.result = search rules in
     let g = read_is_amount c.signed.result c.args.sign c.args.digits.now (c.signed.ensures.whole (omega arith)) (search rules) (search rules) in
-    (rw (to_z-of_z w64 c.signed.result f) g, tt)
+    record { few = rw (to_z-of_z w64 c.signed.result f) g }
