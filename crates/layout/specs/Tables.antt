@@ -1,5 +1,4 @@
 -- What an entry of the code's tables stands for.
-use Rattle.std.specs.Prelude.{ℕ, Bool, List}
 use Rattle.layout.specs.declared.form.Form.{Form}
 use Rattle.layout.specs.declared.form.Form.TheVariants.{Digits, Text, Spaces, Day, DayOrZeros, Sign, Flag, Is, OneOf}
 use Rattle.layout.specs.declared.tables.Field.{Field}
