@@ -4,11 +4,11 @@ use Rattle.std.proofs.Common.{◌≡◌, ℕ, ◌+◌, ◌-◌, ◌<◌, ◌≤�
 use Rattle.std.proofs.lemmas.List.{length-take-le, take-set-le, drop-set-add, take_more_set, get_or-take}
 use Rattle.std.specs.List.{slice_get}
 use Rattle.std.proofs.lemmas.Option.{slice_get-get_or, slice_get_past}
-use Rattle.std.proofs.lemmas.Bool.{cond_both, cond-true, cond-false, eqb-true, eqb-false, eq-eqb, ne_eqb}
+use Rattle.std.proofs.lemmas.Bool.{cond-false, eqb-true, eqb-false, eq-eqb, ne_eqb}
 use Rattle.rows.specs.declared.fields.Fields.{Fields}
 use Rattle.cashbook.specs.declared.fault.BookFault.{BookFault}
 use Rattle.cashbook.specs.declared.fault.BookFault.TheVariants.{BatchOpen, NoRoom, NoBatch}
-use Rattle.cashbook.specs.Meaning.{Meaning, meaning, all_rows, free_rows, batch_rows}
+use Rattle.cashbook.specs.Meaning.{Meaning, meaning, all_rows, free_rows}
 use Rattle.cashbook.specs.Calls.{Outcome, refused, done, answer, after, when_done, opening, adding, committing, cancelling}
 use Rattle.cashbook.specs.Questions.{kept_row}
 use Rattle.cashbook.specs.Counting.{Figures, figure, used, batched, opened, added, committed, cancelled, counted, figures_of}

@@ -4,7 +4,7 @@
 --   after        what a book means behind a call: a refusal changes nothing
 --   when_done    one of two values, by whether a call is done or refused
 --   opening, adding, committing, cancelling   the calls
-use Rattle.std.specs.Prelude.{ℕ, cond, List, [], ◌∷◌, ◌++◌, length, Some, None, Ok, Err, Result, ◌==◌}
+use Rattle.std.specs.Prelude.{ℕ, cond, [], ◌∷◌, ◌++◌, length, Some, None, Ok, Err, Result, ◌==◌}
 use Rattle.rows.specs.declared.fields.Fields.{Fields}
 use Rattle.cashbook.specs.declared.fault.BookFault.{BookFault}
 use Rattle.cashbook.specs.declared.fault.BookFault.TheVariants.{BatchOpen, NoRoom, NoBatch}

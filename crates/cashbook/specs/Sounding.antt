@@ -1,7 +1,7 @@
 -- What a book cites for its soundness when it keeps its rows in a list by its numbers.
 --   counted_sound   numbers in order, room in the list, and rows in it give a sound meaning
-use Rattle.std.specs.Prelude.{◌≡◌, ℕ, ◌+◌, ◌≤◌, true, List, [], ◌++◌, length, take, drop, Some, None, Option}
-use Rattle.std.proofs.Common.{sym, subst, ap, ◌∙◌, add-zero, arith, length-drop, take-add}
+use Rattle.std.specs.Prelude.{◌≡◌, ℕ, ◌+◌, ◌≤◌, true, List, length, take, drop, Some, None, Option}
+use Rattle.std.proofs.Common.{sym, ap, ◌∙◌, add-zero, arith, length-drop, take-add}
 use Rattle.std.proofs.lemmas.List.{length-take-le, append-nil}
 use Rattle.rows.specs.declared.fields.Fields.{Fields}
 use Rattle.cashbook.specs.Meaning.{Sound, are_rows, all_rows, batch_rows}

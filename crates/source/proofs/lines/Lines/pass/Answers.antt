@@ -3,23 +3,26 @@ use Rattle.std.proofs.lemmas.List.{take_rest, length-drop}
 use Rattle.source.proofs.Cursor.{bytes_left, line_here, next_here}
 use Rattle.source.proofs.lines.Lines.pass.Goals as goal
 
-pub slice-bounds-rest-count : goal.slice-bounds-rest-count
-slice-bounds-rest-count c = omega (arith, bytes_left c.args.self.now c.requires)
+pub slice_bounds-rest-count : goal.slice_bounds-rest-count
+slice_bounds-rest-count c = omega (arith, bytes_left c.args.self.now c.requires)
 
-pub slice-bounds-rest-start : goal.slice-bounds-rest-start
-slice-bounds-rest-start c = omega (arith, bytes_left c.args.self.now c.requires)
+pub slice_bounds-rest-start : goal.slice_bounds-rest-start
+slice_bounds-rest-start c = omega (arith, bytes_left c.args.self.now c.requires)
 
-pub first-line-line-requires : goal.first-line-line-requires
-first-line-line-requires c = simp (take_rest, length-drop) (omega (arith, bytes_left c.args.self.now c.requires))
+pub first_line-line-requires : goal.first_line-line-requires
+first_line-line-requires c = simp (take_rest, length-drop) (omega (arith, bytes_left c.args.self.now c.requires))
 
-pub invariant-of-self : goal.invariant-of-self
-invariant-of-self c =
-    (c.args.self.now.counted, (next_here c.args.self.now _ _ c.first-line-line.result.next (take_rest c.args.self.now.file.now c.args.self.now.at) c.first-line-line.ensures.first, tt))
+pub invariant_of-self : goal.invariant_of-self
+invariant_of-self c =
+    record {
+      counted = c.args.self.now.counted;
+      here = next_here c.args.self.now _ _ c.first_line-line.result.next (take_rest c.args.self.now.file.now c.args.self.now.at) c.first_line-line.ensures.first;
+    }
 
 pub returns : goal.returns
 returns c =
     record {
-      line = line_here c.args.self.now _ _ c.first-line-line.result.next (take_rest c.args.self.now.file.now c.args.self.now.at) c.first-line-line.ensures.first;
+      line = line_here c.args.self.now _ _ c.first_line-line.result.next (take_rest c.args.self.now.file.now c.args.self.now.at) c.first_line-line.ensures.first;
       passed = search rules;
       count = search rules;
       file = search rules;

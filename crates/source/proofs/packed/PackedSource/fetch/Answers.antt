@@ -11,14 +11,14 @@ returns-then-n-eq0 c =
     let none = absent (packed c.args.self.now.file.now) c.count-count.result c.args.n c.count-count.ensures c.then-n-eq0.either
     in record { answers = sym (ap answer none); writes = sym (ap (λ slot. left_in slot c.args.out.now) none); same = refl }
 
-pub overflow-mul-rest : goal.overflow-mul-rest
-overflow-mul-rest c = omega (arith, length_packed c.args.self.now.file.now)
+pub overflow_mul-rest : goal.overflow_mul-rest
+overflow_mul-rest c = omega (arith, length_packed c.args.self.now.file.now)
 
-pub slice-bounds-rest-count : goal.slice-bounds-rest-count
-slice-bounds-rest-count c = omega (arith, length_packed c.args.self.now.file.now)
+pub slice_bounds-rest-count : goal.slice_bounds-rest-count
+slice_bounds-rest-count c = omega (arith, length_packed c.args.self.now.file.now)
 
-pub slice-bounds-rest-start : goal.slice-bounds-rest-start
-slice-bounds-rest-start c = omega (arith, length_packed c.args.self.now.file.now)
+pub slice_bounds-rest-start : goal.slice_bounds-rest-start
+slice_bounds-rest-start c = omega (arith, length_packed c.args.self.now.file.now)
 
 pub returns : goal.returns
 returns c =
