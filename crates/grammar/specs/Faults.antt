@@ -1,11 +1,9 @@
 -- Number, record, position and cause of every fault. What is not given is 0.
-use Rattle.std.specs.Prelude.{ℕ, List}
+use Rattle.std.specs.Prelude.{ℕ}
 use Rattle.grammar.specs.declared.faults.RecordFault.{RecordFault}
 use Rattle.grammar.specs.declared.faults.RecordFault.TheVariants.{Forbidden, Unknown, Misformed}
 use Rattle.grammar.specs.declared.faults.StatementFault.{StatementFault}
 use Rattle.grammar.specs.declared.faults.StatementFault.TheVariants.{Record, Misplaced, Number, Money}
-use Rattle.grammar.specs.declared.faults.SourceFault.{SourceFault}
-use Rattle.grammar.specs.declared.faults.Located.{Located}
 use Rattle.grammar.specs.declared.faults.FileFault.{FileFault}
 use Rattle.grammar.specs.declared.faults.FileFault.TheVariants.{Source, Statement, EndsEarly, TooManySlots}
 

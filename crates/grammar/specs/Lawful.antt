@@ -1,5 +1,5 @@
 -- Which readings are lawful: each rule by itself, on the tree of the reading, and nothing of the machine.
-use Rattle.std.specs.Prelude.{◌≡◌, ℕ, suc, ◌+◌, ◌%◌, ◌<◌, ◌≤◌, Bool, true, cond, ◌⊎◌, List, [], ◌∷◌, ◌++◌, length, ℤ, pos, ◌+ℤ◌, Some, None, Option}
+use Rattle.std.specs.Prelude.{◌≡◌, ℕ, suc, ◌+◌, ◌%◌, ◌<◌, ◌≤◌, true, cond, ◌⊎◌, List, [], ◌∷◌, ◌++◌, length, ℤ, pos, ◌+ℤ◌, Some, None, Option}
 use Rattle.std.specs.List.{AllByRecursion as All}
 use Rattle.grammar.specs.Fields.{sequence, detail, reference, link, is_debit, amount, signed_amount, type, level, old_account, old_amount, new_account, new_amount, count, debit_sum, credit_sum}
 use Rattle.grammar.specs.Leaves as L

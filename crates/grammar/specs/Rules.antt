@@ -1,12 +1,10 @@
 -- What a record must say where a file stands, rule by rule in the order of positions.
 --   Rule     the fault where the rule is not kept, and whether it is kept
 --   under    a value where every rule is kept, else the fault of the first that is not
-use Rattle.std.specs.Prelude.{ℕ, suc, ◌+◌, Bool, true, false, cond, not, ◌&&◌, ◌||◌, List, [], ◌∷◌, ℤ, pos, negsuc, Ok, Err, Result, ◌==◌, nat_le}
+use Rattle.std.specs.Prelude.{ℕ, suc, ◌+◌, Bool, false, cond, not, ◌&&◌, ◌||◌, List, [], ◌∷◌, ℤ, pos, negsuc, Ok, Err, Result, ◌==◌, nat_le}
 use Rattle.std.specs.Str.{bytes_eq}
 use Rattle.grammar.specs.declared.faults.StatementFault.{StatementFault}
 use Rattle.grammar.specs.declared.faults.StatementFault.TheVariants.{Number, Money}
-use Rattle.grammar.specs.declared.expect.Expect.{Expect}
-use Rattle.grammar.specs.Order.{is_opened, is_first_communication}
 use Rattle.grammar.specs.Fields.{sequence, detail, reference, next, link, type, level, new_account, new_amount, count, debit_sum, credit_sum}
 use Rattle.grammar.specs.Lawful.{debit_of, credit_of, largest_sum}
 use Rattle.grammar.specs.Places.{Numbers, Sums, none_open, level_fits}

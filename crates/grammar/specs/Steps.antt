@@ -1,5 +1,5 @@
 -- One record after the other: where each leads, or the fault it is refused with.
-use Rattle.std.specs.Prelude.{ℕ, ◌+◌, Bool, true, false, cond, not, ◌&&◌, List, [], ◌∷◌, length, Some, None, Ok, Err, Option, Result, ◌==◌, nat_le, nat_lt}
+use Rattle.std.specs.Prelude.{ℕ, ◌+◌, Bool, cond, not, ◌&&◌, List, [], ◌∷◌, length, Some, None, Ok, Err, Option, Result, ◌==◌, nat_le, nat_lt}
 use Rattle.recordbytes.specs.Classes.{is_plain}
 use Rattle.recordbytes.specs.Walks.{first_failing}
 use Rattle.layout.specs.Kinds.{kind_of}

@@ -3,7 +3,7 @@
 --   counts_of      the numbers that a passing check answers
 --   Checks         the check passes exactly the lawful files of at most 100,000 slots, with the counts of the reading; no file
 --                  has two readings; a refusal names the first slot such that no lawful file begins with the slots up to it
-use Rattle.std.specs.Prelude.{◌≡◌, ℕ, ◌+◌, ◌<◌, ◌≤◌, List, [], ◌∷◌, length, Ok, Err, Result}
+use Rattle.std.specs.Prelude.{◌≡◌, ℕ, ◌+◌, ◌<◌, ◌≤◌, List, [], ◌∷◌, length, Ok, Err}
 use Rattle.std.specs.List.{AllByRecursion as All}
 use Rattle.source.specs.Slots.{Slot, Sound}
 use Rattle.grammar.specs.declared.faults.Counts.{Counts}

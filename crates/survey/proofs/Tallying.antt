@@ -1,5 +1,5 @@
 -- Counting slots one by one.
-use Rattle.std.proofs.Common.{◌≡◌, ℕ, ◌+◌, ◌-◌, ◌<◌, ◌≤◌, Bool, true, false, cond, eqb, List, [], ◌∷◌, length, get_or, drop, Some, None, Option, sym, refl, ap, ◌∙◌, arith}
+use Rattle.std.proofs.Common.{◌≡◌, ℕ, ◌+◌, ◌-◌, ◌<◌, ◌≤◌, Bool, true, false, cond, eqb, List, [], ◌∷◌, length, get_or, drop, Some, None, sym, refl, ap, ◌∙◌, arith}
 use Rattle.std.specs.List.{slice_get}
 use Rattle.std.proofs.lemmas.List.{at_drop_more, at_drop_all}
 use Rattle.std.proofs.lemmas.Option.{slice_get-get_or}
@@ -7,7 +7,7 @@ use Rattle.std.proofs.lemmas.Bool.{cond-false, ne_eqb, eq-eqb, cond-true}
 use Rattle.source.specs.Slots.{Slot, whole, damaged, slot_at}
 use Rattle.source.specs.Fetching.{answer, left_in}
 use Rattle.source.specs.declared.source.Fetched.{Fetched}
-use Rattle.source.specs.declared.source.Fetched.TheVariants.{Record, Damaged, Absent}
+use Rattle.source.specs.declared.source.Fetched.TheVariants.{Absent}
 use Rattle.survey.specs.declared.Sort.{Sort}
 use Rattle.survey.specs.Sorts.{number, is_same, sort_of, tally}
 use Rattle.survey.specs.Fetches.{fetched_sort}

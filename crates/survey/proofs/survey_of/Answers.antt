@@ -1,10 +1,9 @@
-use Rattle.std.proofs.Common.{◌≡◌, ℕ, ◌+◌, cond, length, drop, sym, ap, ◌∙◌, arith}
-use Rattle.survey.specs.Sorts.{tally, is_same}
+use Rattle.std.proofs.Common.{◌∙◌, arith}
 use Rattle.survey.proofs.Tallying.{turn, one_more, room, tally_none}
 use Rattle.survey.proofs.survey_of.Goals as goal
 
-pub sort-of-requires : goal.sort-of-requires
-sort-of-requires g c =
+pub sort_of-requires : goal.sort_of-requires
+sort_of-requires g c =
     (turn (g.S.Source.slots c.args.source.now) _ c.loop-i.i c.fetch-fetched.result _ _ c.loop-i.invariant.0 (omega arith)
     c.fetch-fetched.ensures.answers c.fetch-fetched.ensures.writes).there
 
