@@ -3,7 +3,6 @@ use Rattle.std.proofs.Common.{◌≡◌, ℕ, zero, suc, ◌+◌, ◌-◌, ◌^�
 use lib.IntN.{sub_ℕ}
 use Rattle.std.proofs.lemmas.Int.{to_z-of_z}
 use Rattle.std.proofs.lemmas.Bool.{cond_both, ltb-true}
-use Rattle.values.specs.Money.{signed}
 use Rattle.grammar.specs.Fields.{byte_at, amount, signed_amount}
 use Rattle.grammar.specs.Lawful.{debit_of, credit_of}
 

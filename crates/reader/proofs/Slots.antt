@@ -1,5 +1,5 @@
 -- The loop over the slots: what is left of the list gives the answer.
-use Rattle.std.proofs.Common.{◌≡◌, ℕ, ◌+◌, ◌-◌, ◌<◌, ◌≤◌, cond, ltb, List, [], ◌∷◌, length, get_or, drop, Some, None, Ok, Err, Option, Result, sym, ap, ◌∙◌, subst, arith}
+use Rattle.std.proofs.Common.{◌≡◌, ℕ, ◌+◌, ◌-◌, ◌<◌, ◌≤◌, ltb, List, [], ◌∷◌, length, get_or, drop, Some, Ok, Err, Result, sym, ap, ◌∙◌, subst, arith}
 use Rattle.std.proofs.lemmas.List.{at_drop_more, at_drop_all}
 use Rattle.std.proofs.lemmas.Bool.{cond-true, cond-false, lt-ltb, le-ltb}
 use Rattle.source.specs.Slots.{Slot, whole, damaged, slot_at}
@@ -9,7 +9,6 @@ use Rattle.grammar.specs.declared.faults.StatementFault.{StatementFault}
 use Rattle.grammar.specs.declared.faults.Located.{Located}
 use Rattle.grammar.specs.declared.faults.FileFault.{FileFault}
 use Rattle.grammar.specs.declared.faults.FileFault.TheVariants.{Source, Statement, TooManySlots}
-use Rattle.grammar.specs.declared.faults.Counts.{Counts}
 use Rattle.grammar.specs.Places.{Place, beginning}
 use Rattle.grammar.specs.Steps.{step, run, onward, ended, most_slots, checked}
 use Rattle.reader.specs.Means.{Stepped}
