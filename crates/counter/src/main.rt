@@ -1,57 +1,58 @@
-// The counter program: `counter check [--packed | --lines] FILE...` reports on files, and
-// `counter book [--image | --table] [--capacity N] SCRIPT...` runs the calls of scripts on cash books.
-// Both may stand in one command line, each for the files behind it.
+// The counter program: `counter check [--packed | --lines] FILE...`.
 #![tactic(auto)]
 
 mod arguments;
-mod books;
-mod calls;
 mod names;
 mod report;
-mod script;
-mod show;
 
 use anyhow::anyhow;
-use arguments::{Command, Mistake, Settings, Word};
-use books::report_script;
-use cashbook::MOST_ROWS;
+use arguments::{Cutting, Word, word_of};
 use report::report_file;
-use std::{env, fs, io};
+use std::process::ExitCode;
+use std::{env, fs};
 
-const USAGE: &str =
-    "usage: counter check [--packed | --lines] FILE... or book [--image | --table] [--capacity N] SCRIPT...";
+const USAGE: &str = "usage: counter check [--packed | --lines] FILE...";
 
-fn main(rt: HostRuntime) -> anyhow::Result<()> {
+fn main(rt: HostRuntime) -> anyhow::Result<ExitCode> {
     match run(&rt) {
-        Ok(()) => Ok(()),
+        Ok(()) => Ok(ExitCode::SUCCESS),
         Err(error) => {
             eprintln!(rt; "counter: {error}")?;
-            Err(error)
+            Ok(ExitCode::FAILURE)
         }
     }
 }
 
 fn run(rt: &HostRuntime) -> anyhow::Result<()> {
-    let mut settings = Settings::new();
+    let mut words = env::args(rt)?.skip(1);
+    match words.next() {
+        Some(command) => {
+            if command.as_str() != "check" {
+                return Err(anyhow!(USAGE));
+            }
+        }
+        None => return Err(anyhow!(USAGE)),
+    }
+    let mut cutting = Cutting::Told;
     let mut files = 0usize;
     let mut unread = 0usize;
-    for text in env::args(rt)?.skip(1) {
-        match settings.take(text.as_str()) {
-            Word::Setting => {}
-            Word::File(command) => {
+    for text in words {
+        match word_of(text.as_str()) {
+            Word::Option(chosen) => cutting = chosen,
+            Word::UnknownOption => {
+                eprintln!(rt; "counter: unknown option {text}")?;
+                return Err(anyhow!(USAGE));
+            }
+            Word::File => {
                 files = files.saturating_add(1);
-                if !work_on(rt, text.as_str(), command, settings)? {
+                if !check_file(rt, text.as_str(), cutting)? {
                     unread = unread.saturating_add(1);
                 }
             }
-            Word::Wrong(mistake) => {
-                tell_mistake(rt, text.as_str(), mistake)?;
-                return Err(USAGE.into());
-            }
         }
     }
-    if files == 0 || settings.lacks_capacity() {
-        return Err(USAGE.into());
+    if files == 0 {
+        return Err(anyhow!(USAGE));
     }
     if unread > 0 {
         return Err(anyhow!("not every file could be read"));
@@ -59,53 +60,16 @@ fn run(rt: &HostRuntime) -> anyhow::Result<()> {
     Ok(())
 }
 
-fn tell_mistake(rt: &HostRuntime, text: &str, mistake: Mistake) -> io::Result<()> {
-    match mistake {
-        Mistake::UnknownCommand => eprintln!(rt; "counter: unknown command {text}"),
-        Mistake::UnknownOption => eprintln!(rt; "counter: unknown option {text}"),
-        Mistake::NoCapacity => eprintln!(rt;
-            "counter: the capacity is a number from 0 to {MOST_ROWS}, not {text}"
-        ),
-    }
-}
-
-// Does with a file what its command says; false where it could not be read.
-fn work_on(
-    rt: &HostRuntime,
-    path: &str,
-    command: Command,
-    settings: Settings,
-) -> anyhow::Result<bool> {
-    match command {
-        Command::Check => check_file(rt, path, settings),
-        Command::Book => book_file(rt, path, settings),
-    }
-}
-
 // Reports on a file; false where it could not be read.
-fn check_file(rt: &HostRuntime, path: &str, settings: Settings) -> anyhow::Result<bool> {
+fn check_file(rt: &HostRuntime, path: &str, cutting: Cutting) -> anyhow::Result<bool> {
     match fs::read(rt, path) {
         Ok(file) => {
-            report_file(rt, path, file.as_slice(), settings.cutting)?;
+            report_file(rt, path, file.as_slice(), cutting)?;
             Ok(true)
         }
-        Err(error) => tell_unread(rt, path, error),
-    }
-}
-
-// Runs the calls of a script; false where it could not be read.
-fn book_file(rt: &HostRuntime, path: &str, settings: Settings) -> anyhow::Result<bool> {
-    match fs::read_to_string(rt, path) {
-        Ok(script) => {
-            report_script(rt, path, script.as_str(), settings)?;
-            Ok(true)
+        Err(error) => {
+            eprintln!(rt; "counter: {path}: {error}")?;
+            Ok(false)
         }
-        Err(error) => tell_unread(rt, path, error),
     }
-}
-
-// Tells why a file could not be read; answers false.
-fn tell_unread(rt: &HostRuntime, path: &str, error: io::Error) -> anyhow::Result<bool> {
-    eprintln!(rt; "counter: {path}: {error}")?;
-    Ok(false)
 }
