@@ -1,6 +1,6 @@
 -- What the check's answer says of a file, if whatever has been taken can be completed.
 use Rattle.std.proofs.Common.{◌≡◌, ℕ, ◌+◌, ◌<◌, ◌≤◌, true, false, ltb, List, [], length, Ok, Err, Result, sym, ap, ◌∙◌, subst, inl, inr, arith}
-use Rattle.std.specs.List.{AllByRecursion as All}
+use Rattle.std.specs.List.{AllByRecursion}
 use Rattle.std.proofs.lemmas.List.{append-nil}
 use Rattle.std.proofs.lemmas.Bool.{cond-true, cond-false, cond_both, lt-ltb, le-ltb, cases_lt}
 use Rattle.source.specs.Slots.{Slot, Sound}
@@ -87,7 +87,7 @@ module _ (xs : List Slot) where
       (λ e k. subst (λ x. Halted beginning 1 xs (fault_record x)) (same_fault (EndsEarly (length xs + 1)) f k) (halted_at_end q w e))
       h
 
-  module _ (sound : All Sound xs) where
+  module _ (sound : AllByRecursion Sound xs) where
     passed : (c : Counts) → checked xs ≡ Ok c → (f : LawfulFile xs) × (c ≡ counts_of f.reading) × (length xs ≤ most_slots)
     passed c h = elim (cases_lt most_slots (length xs)) [ inl l ↦ absurd (no_fault TooManySlots c (sym (too_many l) ∙ h)) | inr l ↦ within l ]
       where

@@ -1,7 +1,7 @@
 -- The records of statements that keep the threaded rules, with their codes and forms, are a run of the machine.
 use Rattle.std.proofs.Common.{◌≡◌, ℕ, Bool, true, false, List, [], ◌∷◌, Some, None, Option, sym, refl, ◌∙◌, subst, arith}
 use lib.IntN.{+ℤ_idr}
-use Rattle.std.specs.List.{AllByRecursion as All}
+use Rattle.std.specs.List.{AllByRecursion}
 use Rattle.std.proofs.lemmas.Bool.{true≢false}
 use Rattle.grammar.specs.declared.expect.Expect.{Expect}
 use Rattle.grammar.specs.declared.expect.Expect.TheVariants as E
@@ -120,7 +120,7 @@ module _ (given : FormedGives) where
   run_statements [] ok n s c = done
   run_statements (s ∷ ss) ok n t c = run_statement E.Header n t s ss a_header ok.0 ok.1 (run_statements ss ok.1) c
 
-  pub complete : (ss : List Statement) → StatementsOk ss → Codes (leaves ss) → All Formed (leaves ss) → (ss ≡ [] → ⊥) → Run E.Start unnumbered beginning.sums (leaves ss)
+  pub complete : (ss : List Statement) → StatementsOk ss → Codes (leaves ss) → AllByRecursion Formed (leaves ss) → (ss ≡ [] → ⊥) → Run E.Start unnumbered beginning.sums (leaves ss)
   complete [] ok codes formed one = absurd (one refl)
   complete (s ∷ ss) ok codes formed one =
       run_statement E.Start unnumbered beginning.sums s ss a_first_header ok.0 ok.1 (run_statements ss ok.1) (record { codes = codes; formed = formed })

@@ -1,6 +1,6 @@
 -- Sequence and detail numbers: a record that takes up the current numbers or their successors is counted as the law counts.
 use Rattle.std.proofs.Common.{◌≡◌, ℕ, suc, ◌%◌, eqb, List, [], ◌∷◌, Some, None, Option, sym, ◌∙◌, arith}
-use Rattle.std.specs.List.{AllByRecursion as All}
+use Rattle.std.specs.List.{AllByRecursion}
 use Rattle.std.proofs.lemmas.Bool.{eqb-true, eqb-false, cond_both}
 use Rattle.grammar.specs.Fields.{reference}
 use Rattle.grammar.specs.Readings.{Rest, Information, Movement}
@@ -32,19 +32,19 @@ module _ (n : Numbers) (s d : ℕ) (a : At n s d) where
   repeats : (b : List ℕ) → Belongs s d b → Repeats n b
   repeats b k = (k.0 ∙ sym a.0, k.1 ∙ sym a.1)
 
-  optional_belongs : (o : Option (List ℕ)) (g : Group) → OptionalOk n o → All (Belongs s d) g → All (Belongs s d) (with o g)
+  optional_belongs : (o : Option (List ℕ)) (g : Group) → OptionalOk n o → AllByRecursion (Belongs s d) g → AllByRecursion (Belongs s d) (with o g)
   optional_belongs None g k r = r
   optional_belongs (Some b) g k r = (belongs b k, r)
 
-  optional_repeats : (o : Option (List ℕ)) (g : Group) → All (Belongs s d) (with o g) → OptionalOk n o × All (Belongs s d) g
+  optional_repeats : (o : Option (List ℕ)) (g : Group) → AllByRecursion (Belongs s d) (with o g) → OptionalOk n o × AllByRecursion (Belongs s d) g
   optional_repeats None g k = (tt, k)
   optional_repeats (Some b) g k = (repeats b k.0, k.1)
 
-  rest_belongs : (r : Option Rest) → RestOk n r → All (Belongs s d) (rest_group r)
+  rest_belongs : (r : Option Rest) → RestOk n r → AllByRecursion (Belongs s d) (rest_group r)
   rest_belongs None k = tt
   rest_belongs (Some r) k = (belongs r.two k.0, optional_belongs r.three [] k.1 tt)
 
-  rest_repeats : (r : Option Rest) → All (Belongs s d) (rest_group r) → RestOk n r
+  rest_repeats : (r : Option Rest) → AllByRecursion (Belongs s d) (rest_group r) → RestOk n r
   rest_repeats None k = tt
   rest_repeats (Some r) k = (repeats r.two k.0, (optional_repeats r.three [] k.1).0)
 
@@ -57,7 +57,7 @@ group_behind d (i ∷ is) = group_behind (suc d) is
 
 -- each 3.1 has this reference
 abbrev pub Refers : List ℕ → List Information → Type 0
-Refers r is = All (λ i. reference i.one ≡ r) is
+Refers r is = AllByRecursion (λ i. reference i.one ≡ r) is
 
 pub informations_at : (is : List Information) (n : Numbers) (s d : ℕ) → At n s d → InformationsOk n is → At (behind_informations n is) s (group_behind d is)
 informations_at [] n s d a ok = a
@@ -101,6 +101,6 @@ movement_grouped m ms n s d a b ok g = (
 pub movement_threads : (m : Movement) (ms : List Movement) (n : Numbers) (s d : ℕ) → At n s d → Grouped s d (groups (m ∷ ms) []) → Refers n.reference m.informations
     → BehindOk n m × Grouped s (suc (group_behind d m.informations)) (groups ms [])
 movement_threads m ms n s d a g r =
-    let x : OptionalOk n m.two × All (Belongs s d) (with m.three []) = optional_repeats n s d a m.two (with m.three []) g.0.1 in
+    let x : OptionalOk n m.two × AllByRecursion (Belongs s d) (with m.three []) = optional_repeats n s d a m.two (with m.three []) g.0.1 in
     let y : InformationsOk n m.informations × Grouped s (suc (group_behind d m.informations)) (groups ms []) = informations_thread m.informations n s d (groups ms []) a g.1 r in
     ((x.0, (optional_repeats n s d a m.three [] x.1).0, y.0), y.1)

@@ -1,7 +1,7 @@
 -- The details of a transaction: threaded, they are grouped, referenced, typed and levelled as the law says, and back.
 use Rattle.std.proofs.Common.{◌≡◌, ℕ, suc, Bool, true, List, [], ◌∷◌, sym, refl, ◌∙◌, subst}
 use mathlib.Core.Path.{subst⁻¹}
-use Rattle.std.specs.List.{AllByRecursion as All}
+use Rattle.std.specs.List.{AllByRecursion}
 use Rattle.grammar.specs.Fields.{level}
 use Rattle.grammar.specs.Readings.{Movement}
 use Rattle.grammar.specs.Lawful.{groups, Grouped, Referenced, Level, Levels, none_left, one_more}
@@ -24,7 +24,7 @@ details_grouped (m ∷ ds) n s d a ok =
     movement_grouped m ds v s (suc d) b (ok.0.sequence ∙ a.0, b.1) ok.1
     (details_grouped ds (behind_informations v m.informations) s (group_behind (suc d) m.informations) c ok.2)
 
-pub details_refer : (ds : List Movement) (n : Numbers) → DetailsOk n ds → All Referenced ds
+pub details_refer : (ds : List Movement) (n : Numbers) → DetailsOk n ds → AllByRecursion Referenced ds
 details_refer [] n ok = tt
 details_refer (m ∷ ds) n ok =
     let v : Numbers = behind_detail n m.one in (informations_refer m.informations v ok.1.2, details_refer ds (behind_informations v m.informations) ok.2)
@@ -58,7 +58,7 @@ levelwise (one_more {mid = mid} x y) = record { between = mid; first = x; others
 no_levels : {os new : List ℕ} → Levels os [] new → os ≡ new
 no_levels none_left = refl
 
-pub details_thread : (ds : List Movement) (n : Numbers) (s d : ℕ) (new : List ℕ) → At n s d → Grouped s (suc d) (groups ds []) → All Referenced ds → Tested n.type n.seven ds
+pub details_thread : (ds : List Movement) (n : Numbers) (s d : ℕ) (new : List ℕ) → At n s d → Grouped s (suc d) (groups ds []) → AllByRecursion Referenced ds → Tested n.type n.seven ds
     → Descending n.levels → Levels n.levels ds new → DetailsOk n ds × ((behind_details n ds).levels ≡ new)
 details_thread [] n s d new a g r t h l = (tt, no_levels l)
 details_thread (m ∷ ds) n s d new a g r t h l =

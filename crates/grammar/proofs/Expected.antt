@@ -1,6 +1,6 @@
 -- Where records announce each other by their codes, the machine expects behind a record what comes.
 use Rattle.std.proofs.Common.{◌≡◌, ℕ, Bool, true, false, ◌&&◌, List, ◌∷◌, sym, refl, ap, ◌∙◌, subst}
-use Rattle.std.specs.List.{AllByRecursion as All}
+use Rattle.std.specs.List.{AllByRecursion}
 use Rattle.grammar.specs.declared.expect.Expect.{Expect}
 use Rattle.grammar.specs.declared.expect.Expect.TheVariants as E
 use Rattle.grammar.specs.Fields.{next, link}
@@ -13,7 +13,7 @@ use Rattle.grammar.proofs.Moves.{Apart, Run}
 -- the codes of records, and their forms
 pub record Coded (rs : List Leaf) : Type 0 where
   pub codes : Codes rs
-  pub formed : All Formed rs
+  pub formed : AllByRecursion Formed rs
 
 pub later : {r : Leaf} {rs : List Leaf} → Coded (r ∷ rs) → Coded rs
 later c = record { codes = c.codes.1; formed = c.formed.1 }

@@ -2,7 +2,7 @@
 --   reads_lawful   the slots of formed records that are those of statements are a lawful file
 --   lawful_runs    the machine goes through a lawful file
 use Rattle.std.proofs.Common.{◌≡◌, ℕ, List, [], length, Ok, sym, ap, ◌∙◌, subst}
-use Rattle.std.specs.List.{AllByRecursion as All}
+use Rattle.std.specs.List.{AllByRecursion}
 use Rattle.std.proofs.lemmas.List.{append-nil}
 use Rattle.source.specs.Slots.{Slot}
 use Rattle.grammar.specs.declared.expect.Expect.TheVariants as E
@@ -22,14 +22,14 @@ use Rattle.grammar.proofs.Runs.{counters_of, reads_passed}
 use Rattle.grammar.proofs.FormedGiven.{formed_gives}
 use Rattle.grammar.proofs.Walking.{run_on}
 
-pub reads_lawful : (rs : List Leaf) → Reads rs → All Formed rs → LawfulFile (slots rs)
+pub reads_lawful : (rs : List Leaf) → Reads rs → AllByRecursion Formed rs → LawfulFile (slots rs)
 reads_lawful rs x f = record {
   reading = x.statements;
   lawful = record {
     one = x.one;
     statements = straight x.statements x.ok;
     codes = subst Codes (sym x.is) x.codes;
-    formed = subst (All Formed) (sym x.is) f;
+    formed = subst (AllByRecursion Formed) (sym x.is) f;
   };
   is = ap slots (sym x.is);
 }

@@ -1,7 +1,7 @@
 -- Wherever a file stands, if it has not counted too many records, formed records can still come that end it.
 use Rattle.std.proofs.Common.{◌≡◌, ℕ, zero, suc, ◌+◌, ◌^◌, ◌<◌, ◌≤◌, Bool, true, false, cond, eqb, List, [], ◌∷◌, ◌+ℤ◌, nat_abs, sym, refl, ap, ◌∙◌, subst, inl, arith}
 use mathlib.Core.Path.{subst⁻¹}
-use Rattle.std.specs.List.{AllByRecursion as All}
+use Rattle.std.specs.List.{AllByRecursion}
 use Rattle.std.proofs.lemmas.Bool.{eqb-false, and_left, cond_both}
 use Rattle.values.specs.Money.{credit, debit, is_sign, signed, sign_of}
 use Rattle.grammar.specs.declared.expect.Expect.{Expect}
@@ -30,7 +30,7 @@ use Rattle.grammar.proofs.Standing.{SumsHold, BothHold, Standing, sums_opened, s
 pub record Can (e : Expect) (n : Numbers) (s : Sums) : Type 0 where
   pub rest : List Leaf
   pub ran : Run e n s rest
-  pub formed : All Formed rest
+  pub formed : AllByRecursion Formed rest
 
 before : {e f : Expect} {n m : Numbers} {s t : Sums} {r : Leaf} → Moves e n s r f m t → Formed r → Can f m t → Can e n s
 before {r = r} x formed c = record { rest = r ∷ c.rest; ran = go x c.ran; formed = (formed, c.formed) }
@@ -156,7 +156,7 @@ module _ (n : Numbers) (s : Sums) (h : BothHold n s) where
       by : (os : List ℕ) → n.levels ≡ os → Can E.Further n s
       by [] e = can_balance n s h.sums h.numbers.sequence e (omega arith)
       by (o ∷ os) e =
-          can_close_levels (subst⁻¹ Lowest e (lowest o os (subst (All _) e h.numbers.levelled)))
+          can_close_levels (subst⁻¹ Lowest e (lowest o os (subst (AllByRecursion _) e h.numbers.levelled)))
           (detail_typed n.type n.seven h.numbers.typed (λ z. some_open o os (sym e ∙ h.numbers.single z))) few
 
 module _ (n : Numbers) (s : Sums) (h : BothHold n s) where

@@ -1,6 +1,6 @@
 -- Where the machine halts, the slots before are the beginning of a lawful file, and no lawful file goes on with the next.
 use Rattle.std.proofs.Common.{◌≡◌, ℕ, ◌+◌, ◌≤◌, List, [], ◌∷◌, ◌++◌, length, Ok, Err, Result, sym, ap, ◌∙◌, subst, arith}
-use Rattle.std.specs.List.{AllByRecursion as All}
+use Rattle.std.specs.List.{AllByRecursion}
 use Rattle.std.proofs.ByRecursion.{All-append}
 use Rattle.std.proofs.lemmas.List.{append-nil, append_assoc, map-append, length-map, length-append}
 use Rattle.std.proofs.lemmas.Bool.{both_ways}
@@ -23,17 +23,17 @@ use Rattle.grammar.proofs.LawfulRuns.{reads_lawful, lawful_runs}
 
 -- whatever has been taken can be completed
 abbrev pub Completes : Type 0
-Completes = (before : List Leaf) (t : Place) → All Formed before → Takes beginning before t → length before ≤ most_slots
-    → (rest : List Leaf) × Run t.expect t.numbers t.sums rest × All Formed rest
+Completes = (before : List Leaf) (t : Place) → AllByRecursion Formed before → Takes beginning before t → length before ≤ most_slots
+    → (rest : List Leaf) × Run t.expect t.numbers t.sums rest × AllByRecursion Formed rest
 
 taken_before : (p : Place) (rs : List Leaf) (q : Place) (rest : List Leaf) → Takes p rs q → Run q.expect q.numbers q.sums rest → Run p.expect p.numbers p.sums (rs ++ rest)
 taken_before p [] q rest t x = subst (λ (y : Place). Run y.expect y.numbers y.sums rest) (sym t) x
 taken_before p (r ∷ rs) q rest t x = go (taken_moves p r t.0 t.1).moves (taken_before t.0 rs q rest t.2 x)
 
-file_begins : Completes → (before : List Leaf) (t : Place) → All Formed before → Takes beginning before t → length before ≤ most_slots → Begins (slots before)
+file_begins : Completes → (before : List Leaf) (t : Place) → AllByRecursion Formed before → Takes beginning before t → length before ≤ most_slots → Begins (slots before)
 file_begins can before t f x l =
     let c = can before t f x l in
-    let all : All Formed (before ++ c.0) = All-append Formed before c.0 f c.2 in
+    let all : AllByRecursion Formed (before ++ c.0) = All-append Formed before c.0 f c.2 in
     record {
       others = slots c.0;
       file = subst LawfulFile (map-append (λ r. whole (bytes r)) before c.0) (reads_lawful (before ++ c.0) (sound formed_gives (taken_before beginning before t c.0 x c.1) all) all);
@@ -51,7 +51,7 @@ halts_there (whole b) behind others t n q h e = no_fault _ q (sym (ap (onward n 
 same_place : (p q : Place) → ◌≡◌ {A = Result Place FileFault} (Ok p) (Ok q) → p ≡ q
 same_place p q h = cc
 
-goes_wrong : (before : List Leaf) (behind : List Slot) (t : Place) → All Formed before → Takes beginning before t → Halts t behind → Wrong (slots before) behind
+goes_wrong : (before : List Leaf) (behind : List Slot) (t : Place) → AllByRecursion Formed before → Takes beginning before t → Halts t behind → Wrong (slots before) behind
 goes_wrong before [] t f x h = λ file.
     let g = lawful_runs (slots before) file in
     let e : t ≡ g.to = same_place t g.to (sym (run_on beginning before t 1 [] f x) ∙ ap (run beginning 1) (append-nil (slots before)) ∙ g.runs) in

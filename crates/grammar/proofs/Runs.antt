@@ -1,6 +1,6 @@
 -- The machine, from the beginning of a file to where it may end, passes just the records of statements that keep the threaded rules.
 use Rattle.std.proofs.Common.{◌≡◌, ℕ, ◌+◌, true, List, [], length, refl, ◌∙◌, arith}
-use Rattle.std.specs.List.{AllByRecursion as All}
+use Rattle.std.specs.List.{AllByRecursion}
 use Rattle.std.proofs.lemmas.Bool.{false≢true}
 use Rattle.grammar.specs.declared.expect.Expect.{Expect}
 use Rattle.grammar.specs.declared.expect.Expect.TheVariants as E
@@ -48,8 +48,8 @@ only_end E.Trailer h = absurd (false≢true h)
 only_end E.End h = refl
 
 module _ (given : FormedGives) where
-  pub passed_reads : (rs : List Leaf) (q : Place) → Takes beginning rs q → may_end q.expect ≡ true → All Formed rs → Reads rs
+  pub passed_reads : (rs : List Leaf) (q : Place) → Takes beginning rs q → may_end q.expect ≡ true → AllByRecursion Formed rs → Reads rs
   passed_reads rs q t h formed = sound given (takes_run beginning rs q t (only_end q.expect h)) formed
 
-  pub reads_passed : (ss : List Statement) → (ss ≡ [] → ⊥) → StatementsOk ss → Codes (leaves ss) → All Formed (leaves ss) → Ends beginning (leaves ss)
+  pub reads_passed : (ss : List Statement) → (ss ≡ [] → ⊥) → StatementsOk ss → Codes (leaves ss) → AllByRecursion Formed (leaves ss) → Ends beginning (leaves ss)
   reads_passed ss one ok codes formed = run_ends 0 0 (complete given ss ok codes formed one)

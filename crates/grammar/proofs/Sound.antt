@@ -1,7 +1,7 @@
 -- A run of the machine is the records of statements that keep the threaded rules.
 use Rattle.std.proofs.Common.{◌≡◌, ℕ, Bool, true, false, List, [], ◌∷◌, Some, None, Option, sym, refl, ap, ◌∙◌, arith}
 use lib.IntN.{+ℤ_idr}
-use Rattle.std.specs.List.{AllByRecursion as All}
+use Rattle.std.specs.List.{AllByRecursion}
 use Rattle.std.proofs.lemmas.Bool.{true≢false}
 use Rattle.grammar.specs.declared.expect.Expect.{Expect}
 use Rattle.grammar.specs.declared.expect.Expect.TheVariants as E
@@ -168,7 +168,7 @@ module _ (given : FormedGives) where
       let h = any_behind_trailer (another b) g in
       record { left = (b, h.left); ok = (ended s b f formed, h.ok); is = ap (trailer b ∷◌) h.is }
 
-  good : {e : Expect} {n : Numbers} {s : Sums} {rs : List Leaf} → Run e n s rs → All Formed rs → Good e n s rs
+  good : {e : Expect} {n : Numbers} {s : Sums} {rs : List Leaf} → Run e n s rs → AllByRecursion Formed rs → Good e n s rs
   good done formed = record { left = []; ok = tt; is = refl }
   good (go m x) formed = grow m formed.0 (good x formed.1)
 
@@ -183,7 +183,7 @@ pub record Reads (rs : List Leaf) : Type 0 where
 not_empty : {n : Numbers} {s : Sums} {rs : List Leaf} → Run E.Start n s rs → rs ≡ [] → ⊥
 not_empty (go m x) h = let z : ◌≡◌ {A = ℕ} 0 1 = cc h in absurd (omega arith)
 
-pub sound : FormedGives → {n : Numbers} {s : Sums} {rs : List Leaf} → Run E.Start n s rs → All Formed rs → Reads rs
+pub sound : FormedGives → {n : Numbers} {s : Sums} {rs : List Leaf} → Run E.Start n s rs → AllByRecursion Formed rs → Reads rs
 sound given x formed =
     let g = good given x formed in
     record { statements = g.left; one = λ h. not_empty x (sym g.is ∙ ap leaves h); ok = g.ok; is = g.is; codes = codes_run x }

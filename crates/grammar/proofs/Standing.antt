@@ -1,6 +1,6 @@
 -- What holds wherever a file stands: at its beginning, and behind each formed record that may come.
 use Rattle.std.proofs.Common.{◌≡◌, ℕ, suc, ◌<◌, ◌≤◌, Bool, true, false, List, [], nat_abs, ap, subst, arith}
-use Rattle.std.specs.List.{AllByRecursion as All}
+use Rattle.std.specs.List.{AllByRecursion}
 use Rattle.std.proofs.lemmas.Bool.{false≢true}
 use Rattle.grammar.specs.declared.expect.Expect.{Expect}
 use Rattle.grammar.specs.declared.expect.Expect.TheVariants as E
@@ -23,7 +23,7 @@ pub record NumbersHold (n : Numbers) : Type 0 where
   pub detail : n.detail < 10000
   pub reference : PlainBytes 21 n.reference
   pub typed : n.type ≤ 3
-  pub levelled : All IsLevel n.levels
+  pub levelled : AllByRecursion IsLevel n.levels
   -- a main movement of type 0 opens no level
   pub single : n.type ≡ 0 → n.levels ≡ []
 

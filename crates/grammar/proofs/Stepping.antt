@@ -3,7 +3,7 @@
 --   step_formed    of a formed record a step sees the values alone
 --   same_records   formed records in the same slots are the same
 use Rattle.std.proofs.Common.{◌≡◌, ℕ, leb, List, [], ◌∷◌, length, Some, None, Ok, Err, Option, Result, sym, refl, ap, ◌∙◌, arith}
-use Rattle.std.specs.List.{AllByRecursion as All}
+use Rattle.std.specs.List.{AllByRecursion}
 use Rattle.std.proofs.lemmas.Bool.{cond_both}
 use Rattle.layout.specs.Kinds.{kind_of}
 use Rattle.layout.specs.Layouts.{first_misformed}
@@ -40,7 +40,7 @@ same_record r s f g h =
 same_bytes : (a b : List ℕ) (xs ys : List Slot) → ◌≡◌ {A = List Slot} (whole a ∷ xs) (whole b ∷ ys) → (a ≡ b) × (xs ≡ ys)
 same_bytes a b xs ys h = (cc, cc)
 
-pub same_records : (rs ss : List Leaf) → All Formed rs → All Formed ss → slots rs ≡ slots ss → rs ≡ ss
+pub same_records : (rs ss : List Leaf) → AllByRecursion Formed rs → AllByRecursion Formed ss → slots rs ≡ slots ss → rs ≡ ss
 same_records [] [] f g h = refl
 same_records [] (s ∷ ss) f g h = let z : ◌≡◌ {A = ℕ} 0 1 = cc in absurd (omega arith)
 same_records (r ∷ rs) [] f g h = let z : ◌≡◌ {A = ℕ} 0 1 = cc in absurd (omega arith)

@@ -3,7 +3,7 @@
 --   threaded   what is lawful is threaded
 use Rattle.std.proofs.Common.{◌≡◌, ℕ, List, [], ◌∷◌, Some, None, Option, refl}
 use mathlib.Core.Path.{subst⁻¹}
-use Rattle.std.specs.List.{AllByRecursion as All}
+use Rattle.std.specs.List.{AllByRecursion}
 use Rattle.grammar.specs.Readings.{Transaction, Closing, Statement}
 use Rattle.grammar.specs.Lawful.{ClosedIfMoved, StatementLaw}
 use Rattle.grammar.specs.Places.{unnumbered}
@@ -50,10 +50,10 @@ statement_threaded s k =
       credit_limit = k.credit_limit;
     }
 
-pub straight : (ss : List Statement) → StatementsOk ss → All StatementLaw ss
+pub straight : (ss : List Statement) → StatementsOk ss → AllByRecursion StatementLaw ss
 straight [] k = tt
 straight (s ∷ ss) k = (statement_straight s k.0, straight ss k.1)
 
-pub threaded : (ss : List Statement) → All StatementLaw ss → StatementsOk ss
+pub threaded : (ss : List Statement) → AllByRecursion StatementLaw ss → StatementsOk ss
 threaded [] k = tt
 threaded (s ∷ ss) k = (statement_threaded s k.0, threaded ss k.1)

@@ -1,7 +1,7 @@
 -- The transactions of a statement: threaded, they are numbered, referenced, typed and levelled as the law says, and back.
 use Rattle.std.proofs.Common.{◌≡◌, ℕ, suc, ◌%◌, Bool, true, eqb, List, [], ◌∷◌, sym, refl, ◌∙◌, subst}
 use mathlib.Core.Path.{subst⁻¹}
-use Rattle.std.specs.List.{AllByRecursion as All}
+use Rattle.std.specs.List.{AllByRecursion}
 use Rattle.std.proofs.lemmas.Bool.{or_right}
 use Rattle.grammar.specs.Fields.{level}
 use Rattle.grammar.specs.Readings.{Transaction}
@@ -37,7 +37,7 @@ transaction_grouped t n s e ok =
     movement_grouped t.main t.details v (suc s) 0 a a ok.1
     (details_grouped t.details (behind_main_movement t) (suc s) (group_behind 0 t.main.informations) b ok.2)
 
-transaction_refers : (t : Transaction) (n : Numbers) → TransactionOk n t → All Referenced (movements t)
+transaction_refers : (t : Transaction) (n : Numbers) → TransactionOk n t → AllByRecursion Referenced (movements t)
 transaction_refers t n ok = (informations_refer t.main.informations (behind_main t.main.one) ok.1.2, details_refer t.details (behind_main_movement t) ok.2)
 
 transaction_typed : (t : Transaction) (n : Numbers) → TransactionOk n t → Typed t
@@ -56,7 +56,7 @@ transaction_levelled t n ok e =
       single = ok.0.levelled;
     }
 
-transaction_threads : (t : Transaction) (n : Numbers) (s : ℕ) → n.sequence ≡ s % 10000 → n.levels ≡ [] → Grouped (suc s) 0 (groups (movements t) []) → All Referenced (movements t) → Typed t → Levelled t
+transaction_threads : (t : Transaction) (n : Numbers) (s : ℕ) → n.sequence ≡ s % 10000 → n.levels ≡ [] → Grouped (suc s) 0 (groups (movements t) []) → AllByRecursion Referenced (movements t) → Typed t → Levelled t
     → TransactionOk n t × ((behind_transaction t).levels ≡ [])
 transaction_threads t n s e none g r y l =
     let v : Numbers = behind_main t.main.one in
@@ -83,9 +83,9 @@ transaction_threads t n s e none g r y l =
 
 pub record TransactionsLaw (s : ℕ) (ts : List Transaction) : Type 0 where
   pub numbered : Numbered s ts
-  pub referenced : All (λ t. All Referenced (movements t)) ts
-  pub typed : All Typed ts
-  pub levelled : All Levelled ts
+  pub referenced : AllByRecursion (λ t. AllByRecursion Referenced (movements t)) ts
+  pub typed : AllByRecursion Typed ts
+  pub levelled : AllByRecursion Levelled ts
 
 -- no level is open behind a transaction: the next main movement says so, or what stands behind the last
 none_open_behind : (t : Transaction) (ts : List Transaction) → TransactionsOk (behind_transaction t) ts → (behind_transactions (behind_transaction t) ts).levels ≡ [] → (behind_transaction t).levels ≡ []

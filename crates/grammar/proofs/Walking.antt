@@ -2,7 +2,7 @@
 --   run_on   behind records that are taken the machine runs on
 --   walked   what it has taken behind a run, or in front of a fault
 use Rattle.std.proofs.Common.{◌≡◌, ℕ, suc, ◌+◌, false, List, [], ◌∷◌, ◌++◌, length, Ok, Err, Result, sym, refl, ap, ◌∙◌, arith}
-use Rattle.std.specs.List.{AllByRecursion as All}
+use Rattle.std.specs.List.{AllByRecursion}
 use Rattle.source.specs.Slots.{Slot, whole, damaged, Sound}
 use Rattle.grammar.specs.declared.faults.StatementFault.{StatementFault}
 use Rattle.grammar.specs.declared.faults.FileFault.{FileFault}
@@ -21,7 +21,7 @@ one_more n m = omega arith
 none_more : (n : ℕ) → n ≡ n + 0
 none_more n = omega arith
 
-pub run_on : (p : Place) (rs : List Leaf) (q : Place) (n : ℕ) (ys : List Slot) → All Formed rs → Takes p rs q → run p n (slots rs ++ ys) ≡ run q (n + length rs) ys
+pub run_on : (p : Place) (rs : List Leaf) (q : Place) (n : ℕ) (ys : List Slot) → AllByRecursion Formed rs → Takes p rs q → run p n (slots rs ++ ys) ≡ run q (n + length rs) ys
 run_on p [] q n ys f t = ap (λ x. run x n ys) t ∙ ap (λ m. run q m ys) (none_more n)
 run_on p (r ∷ rs) q n ys f t =
     ap (onward n (λ x. run x (n + 1) (slots rs ++ ys))) (step_formed p r f.0 ∙ t.1)
@@ -33,7 +33,7 @@ run_on p (r ∷ rs) q n ys f t =
 -- the slots are those of formed records, which are taken
 pub record Through (p : Place) (xs : List Slot) (q : Place) : Type 0 where
   pub all : List Leaf
-  pub formed : All Formed all
+  pub formed : AllByRecursion Formed all
   pub is : xs ≡ slots all
   pub takes : Takes p all q
 
@@ -46,7 +46,7 @@ Halts t (whole b ∷ xs) = (f : StatementFault) × (step t b ≡ Err f)
 -- of slots of which the first has number n, slot k is where the machine halts
 pub record Halted (p : Place) (n : ℕ) (xs : List Slot) (k : ℕ) : Type 0 where
   pub before : List Leaf
-  pub formed : All Formed before
+  pub formed : AllByRecursion Formed before
   pub behind : List Slot
   pub split : xs ≡ slots before ++ behind
   pub at : k ≡ n + length before
@@ -80,7 +80,7 @@ walked_on p n b xs q (Err f) l w = record {
   halts = w.halts;
 }
 
-pub walked : (p : Place) (n : ℕ) (xs : List Slot) → All Sound xs → Walked p n xs (run p n xs)
+pub walked : (p : Place) (n : ℕ) (xs : List Slot) → AllByRecursion Sound xs → Walked p n xs (run p n xs)
 walked p n [] s = record { all = []; formed = tt; is = refl; takes = refl }
 walked p n (damaged damage ∷ xs) s = halted_here p n (damaged damage ∷ xs) tt
 walked p n (whole b ∷ xs) s = by (step p b) refl (λ q. walked q (n + 1) xs s.1)

@@ -1,6 +1,6 @@
 -- Which readings are lawful: each rule by itself, on the tree of the reading, and nothing of the machine.
 use Rattle.std.specs.Prelude.{◌≡◌, ℕ, suc, ◌+◌, ◌%◌, ◌<◌, ◌≤◌, true, cond, ◌⊎◌, List, [], ◌∷◌, ◌++◌, length, ℤ, pos, ◌+ℤ◌, Some, None, Option}
-use Rattle.std.specs.List.{AllByRecursion as All}
+use Rattle.std.specs.List.{AllByRecursion}
 use Rattle.grammar.specs.Fields.{sequence, detail, reference, link, is_debit, amount, signed_amount, type, level, old_account, old_amount, new_account, new_amount, count, debit_sum, credit_sum}
 use Rattle.grammar.specs.Leaves as L
 use Rattle.grammar.specs.Leaves.{Leaf, Formed}
@@ -46,7 +46,7 @@ Bears s d b = (sequence b ≡ s) × (detail b ≡ d)
 -- the groups d, d + 1 and so on of transaction s: each record of a group has the number of the transaction and that of the group
 abbrev pub Grouped : ℕ → ℕ → List Group → Type 0
 Grouped s d [] = Unit {0}
-Grouped s d (g ∷ gs) = All (Bears (s % 10000) (d % 10000)) g × Grouped s (suc d) gs
+Grouped s d (g ∷ gs) = AllByRecursion (Bears (s % 10000) (d % 10000)) g × Grouped s (suc d) gs
 
 -- the transactions s, s + 1 and so on of a statement, the groups of each from 0 on
 abbrev pub Numbered : ℕ → List Transaction → Type 0
@@ -55,7 +55,7 @@ Numbered s (t ∷ ts) = Grouped s 0 (groups (movements t) []) × Numbered (suc s
 
 -- REFERENCES: each 3.1 has that of its movement's 2.1
 abbrev pub Referenced : Movement → Type 0
-Referenced m = All (λ i. reference i.one ≡ reference m.one) m.informations
+Referenced m = AllByRecursion (λ i. reference i.one ≡ reference m.one) m.informations
 
 -- TYPES
 
@@ -75,7 +75,7 @@ pub record Typed (t : Transaction) : Type 0 where
 
 -- above all of these
 abbrev pub Above : ℕ → List ℕ → Type 0
-Above l os = All (λ o. o < l) os
+Above l os = AllByRecursion (λ o. o < l) os
 
 -- the open levels before a 2.1, its level, and the open levels behind it
 pub data Level : List ℕ → ℕ → List ℕ → Type 0 where
@@ -164,9 +164,9 @@ counted s = L.old_balance s.old ∷ transactions_leaves s.transactions (balance_
 
 pub record StatementLaw (s : Statement) : Type 0 where
   pub numbered : Numbered 1 s.transactions
-  pub referenced : All (λ t. All Referenced (movements t)) s.transactions
-  pub typed : All Typed s.transactions
-  pub levelled : All Levelled s.transactions
+  pub referenced : AllByRecursion (λ t. AllByRecursion Referenced (movements t)) s.transactions
+  pub typed : AllByRecursion Typed s.transactions
+  pub levelled : AllByRecursion Levelled s.transactions
   pub closing : ClosedIfMoved s.old s.transactions s.closing
   pub count : count s.end ≡ length (counted s)
   pub debits : debit_sum s.end ≡ debits s.transactions
@@ -177,6 +177,6 @@ pub record StatementLaw (s : Statement) : Type 0 where
 -- THE READING: a list of statements, at least one
 pub record Lawful (r : Reading) : Type 0 where
   pub one : r ≡ [] → ⊥
-  pub statements : All StatementLaw r
+  pub statements : AllByRecursion StatementLaw r
   pub codes : Codes (leaves r)
-  pub formed : All Formed (leaves r)
+  pub formed : AllByRecursion Formed (leaves r)

@@ -4,7 +4,7 @@
 --   Checks         the check passes exactly the lawful files of at most 100,000 slots, with the counts of the reading; no file
 --                  has two readings; a refusal names the first slot such that no lawful file begins with the slots up to it
 use Rattle.std.specs.Prelude.{◌≡◌, ℕ, ◌+◌, ◌<◌, ◌≤◌, List, [], ◌∷◌, length, Ok, Err}
-use Rattle.std.specs.List.{AllByRecursion as All}
+use Rattle.std.specs.List.{AllByRecursion}
 use Rattle.source.specs.Slots.{Slot, Sound}
 use Rattle.grammar.specs.declared.faults.Counts.{Counts}
 use Rattle.grammar.specs.declared.faults.FileFault.{FileFault}
@@ -34,4 +34,4 @@ pub record Checks (xs : List Slot) : Type 0 where
   pub first_wrong : (f : FileFault) → length xs ≤ most_slots → checked xs ≡ Err f → FirstWrong xs (fault_record f)
 
 abbrev pub CheckTheorem : Type 0
-CheckTheorem = (xs : List Slot) → All Sound xs → Checks xs
+CheckTheorem = (xs : List Slot) → AllByRecursion Sound xs → Checks xs

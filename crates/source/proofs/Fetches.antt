@@ -1,6 +1,6 @@
 -- What an answer says of its slot, for crates that fetch.
 use Rattle.std.proofs.Common.{◌≡◌, ℕ, zero, suc, ◌-◌, ◌<◌, ◌≤◌, true, false, cond, eqb, List, [], ◌∷◌, length, Some, None, ap, ◌∙◌, subst, arith}
-use Rattle.std.specs.List.{AllByRecursion as All, slice_get}
+use Rattle.std.specs.List.{AllByRecursion, slice_get}
 use Rattle.source.specs.Slots.{Slot, whole, damaged, Sound, slot_at}
 use Rattle.source.specs.Fetching.{answer}
 use Rattle.source.specs.declared.source.Damage.{Damage}
@@ -26,13 +26,13 @@ sound_answers (damaged found) sound damage e =
 absent_answers : (damage : Damage) → Damaged damage ≡ answer None → Sound (damaged damage)
 absent_answers damage e = let z : ◌≡◌ {A = ℕ} 0 1 = cc in absurd (omega arith)
 
-nth_answers : (slots : List Slot) (i : ℕ) → All Sound slots → (damage : Damage) → Damaged damage ≡ answer (slice_get slots i) → Sound (damaged damage)
+nth_answers : (slots : List Slot) (i : ℕ) → AllByRecursion Sound slots → (damage : Damage) → Damaged damage ≡ answer (slice_get slots i) → Sound (damaged damage)
 nth_answers [] i sound = absent_answers
 nth_answers (slot ∷ slots) zero sound = sound_answers slot sound.0
 nth_answers (slot ∷ slots) (suc i) sound = nth_answers slots i sound.1
 
 -- a damage that is answered is sound
-pub damage_sound : (slots : List Slot) (n : ℕ) (damage : Damage) → All Sound slots → Damaged damage ≡ answer (slot_at slots n) → Sound (damaged damage)
+pub damage_sound : (slots : List Slot) (n : ℕ) (damage : Damage) → AllByRecursion Sound slots → Damaged damage ≡ answer (slot_at slots n) → Sound (damaged damage)
 damage_sound slots n damage sound =
     elim (eqb n 0) as (λ none. Damaged damage ≡ answer (cond none None (slice_get slots (n - 1))) → Sound (damaged damage))
     [ true ↦ absent_answers damage | false ↦ nth_answers slots (n - 1) sound damage ]

@@ -1,6 +1,6 @@
 // What a source is, and what fetching a slot of it answers.
 ghost use Rattle.std.specs.Prelude.{◌≡◌, List, length};
-ghost use Rattle.std.specs.List.{AllByRecursion as All};
+ghost use Rattle.std.specs.List.{AllByRecursion};
 ghost use Rattle.source.specs.Slots.{Slot, Sound, slot_at};
 ghost use Rattle.source.specs.Fetching.{answer, left_in};
 
@@ -32,7 +32,7 @@ pub trait Source {
     ghost slots: { Self → List Slot };
 
     // Every slot holds 128 bytes, or a damage with a cause from 1 to 255.
-    ghost sound: { (s : Self) → All Sound (slots s) };
+    ghost sound: { (s : Self) → AllByRecursion Sound (slots s) };
 
     // The number of slots.
     fn count(&self) -> usize
