@@ -1,7 +1,7 @@
 -- Places in step with the first rows of a list: reading them, and one row more.
-use Rattle.std.proofs.Common.{◌≡◌, ℕ, ◌+◌, ◌<◌, ◌≤◌, true, false, List, [], ◌∷◌, ◌++◌, length, get_or, take, drop, set, Some, None, sym, refl, ap, ◌∙◌, subst, arith, length-set}
-use lib.Seq.{take-set-lt}
-use Rattle.std.proofs.lemmas.List.{length-take-le, take_more, take_more_set, take-set-le, take-append-drop, get_or-take, length_push}
+use Rattle.std.proofs.Common.{◌≡◌, ℕ, ◌+◌, ◌<◌, ◌≤◌, true, false, List, [], ◌∷◌, ◌++◌, length, get_or, take, drop, set, Some, None, sym, refl, ap, ◌∙◌, arith, length-set}
+use Rattle.std.proofs.Math.Seq.{take-set-lt}
+use Rattle.std.proofs.lemmas.List.{length-take-le, take_more, take_more_set, take-append-drop, get_or-take, length_push}
 use Rattle.std.specs.Str.{bytes_eq}
 use Rattle.rows.specs.declared.fields.Fields.{Fields}
 use Rattle.rows.specs.declared.fields.Fields.TheVariants.{Movement, Statement}
@@ -20,10 +20,6 @@ use Rattle.tablebook.specs.Memory.{placed}
 pub placed_is : (kept : List Fields) (number : ℕ) (held old : List ℕ) → InStep kept number held → drop number held ≡ drop number old → held ≡ placed kept old
 placed_is kept number held old step rest =
     sym (take-append-drop number held) ∙ (ap (λ ps. ps ++ drop number held) step.1 ∙ ap (λ ps. places kept ++ ps) (rest ∙ ap (λ n. drop n old) step.0))
-
--- a write behind the kept rows
-pub step_behind : (rows : List Fields) (kept at : ℕ) (row : Fields) (number : ℕ) (held : List ℕ) → kept ≤ at → InStep (take kept rows) number held → InStep (take kept (set rows at row)) number held
-step_behind rows kept at row number held behind step = subst (λ (ks : List Fields). InStep ks number held) (sym (take-set-le kept rows at row behind)) step
 
 module _ (rows : List Fields) (count number : ℕ) (held : List ℕ) (room : count ≤ length rows) (step : InStep (take count rows) number held) where
   pub few : number ≤ count

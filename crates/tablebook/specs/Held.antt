@@ -1,9 +1,9 @@
 -- What a table holds.
---   InStep   the first places are those of the kept rows: the place of the last statement row of each account,
+--   InStep    the first places are those of the kept rows: the place of the last statement row of each account,
 --             accounts in the order in which they were first kept
 --   Last      the place of the last statement row of an account among the rows from a start to an end; where there is none,
 --             the latest row up to the end is the latest up to the start
-use Rattle.std.specs.Prelude.{◌≡◌, ℕ, ◌<◌, ◌≤◌, List, length, take, Some, None, Option, slice_index_or}
+use Rattle.std.specs.Prelude.{◌≡◌, ℕ, ◌<◌, List, length, take, Some, None, Option, slice_index_or}
 use Rattle.rows.specs.declared.fields.Fields.{Fields}
 use Rattle.cashbook.specs.Questions.{latest}
 use Rattle.placing.specs.Places.{places}

@@ -5,8 +5,8 @@
 --   with_row       the list of rows behind an add: the row behind those in use, or at a refusal what it was
 --   placed         a list of places that begins with those of some kept rows
 --   with_places    the list of places behind a commit: those of all rows first, or at a refusal what it was
---   HoldsRows     a list of rows begins with those of a meaning
---   HoldsPlaces   a list of places begins with those of the kept rows
+--   HoldsRows      a list of rows begins with those of a meaning
+--   HoldsPlaces    a list of places begins with those of the kept rows
 use Rattle.std.specs.Prelude.{◌≡◌, ℕ, min, List, ◌++◌, length, take, drop, slice_set}
 use Rattle.rows.specs.declared.fields.Fields.{Fields}
 use Rattle.cashbook.specs.Calls.{adding, committing, when_done}

@@ -1,7 +1,7 @@
 // The caller's memory: a list of rows, and a list of places in it.
 use rows::Fields;
 
-mod placing;
+mod keeping;
 mod reading;
 mod writing;
 

@@ -8,8 +8,8 @@ row-requires c =
     let i = c.in-Some.ensures.0 in
     (omega arith, λ d. every_at is_row c.args.end c.in-Some.i c.args.self.now.rows.now d i (omega arith) c.requires.fine)
 
-pub latest-kept-requires : goal.latest-kept-requires
-latest-kept-requires c =
+pub latest_kept-requires : goal.latest_kept-requires
+latest_kept-requires c =
     record {
       inside = (omega arith, omega arith);
       step = c.requires.step;

@@ -1,4 +1,4 @@
-use Rattle.std.proofs.Common.{◌≡◌, ◌<◌, ◌≤◌, length, get_or, Some, sym, ap, ◌∙◌, arith, rules}
+use Rattle.std.proofs.Common.{◌<◌, ◌≤◌, length, get_or, Some, sym, ap, ◌∙◌, arith, rules}
 use Rattle.rows.specs.Rows.{is_row}
 use Rattle.recordbytes.proofs.Each.{every_at}
 use Rattle.tablebook.proofs.Stepping.{few, found_inside, place_in, latest_at_place, latest_nowhere}
@@ -12,8 +12,8 @@ known c =
       few m.rows.now c.args.count c.args.accounts m.places.now c.requires.inside.0 c.requires.step,
     )
 
-pub offset-bounds-self-j : goal.offset-bounds-self-j
-offset-bounds-self-j c =
+pub offset_bounds-self-j : goal.offset_bounds-self-j
+offset_bounds-self-j c =
     let k = known c in
     let i : c.in-Some.j < length c.args.self.now.places.now = omega arith in
     search rules

@@ -14,9 +14,9 @@ same_behind m n xs ys less e =
 pub loop-i-preserved : goal.loop-i-preserved
 loop-i-preserved c =
     let h = c.loop-i.invariant in
-    let e = c.place-next-found.ensures in
-    let n = c.place-next-found.result in (
-      subst (λ (rs : List Fields). InStep (take (c.loop-i.i + 1) rs) n c.place-next-found.new.self.places.now) h.1 e.step,
+    let e = c.place_next-found.ensures in
+    let n = c.place_next-found.result in (
+      subst (λ (rs : List Fields). InStep (take (c.loop-i.i + 1) rs) n c.place_next-found.new.self.places.now) h.1 e.step,
       e.rows ∙ h.1,
       e.size ∙ h.2,
       e.rest ∙ same_behind c.loop-i.found n c.loop-i.self.places.now c.args.self.now.places.now e.grows h.3,

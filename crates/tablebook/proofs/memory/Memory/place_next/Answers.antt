@@ -1,4 +1,4 @@
-use Rattle.std.proofs.Common.{◌≡◌, ◌+◌, ◌<◌, ◌≤◌, length, refl, arith, length-set, rules}
+use Rattle.std.proofs.Common.{◌+◌, ◌<◌, ◌≤◌, refl, arith, length-set}
 use Rattle.std.proofs.lemmas.List.{drop-set-lt}
 use Rattle.tablebook.proofs.Stepping.{few, found_inside, step_movement, step_known, step_new}
 use Rattle.tablebook.proofs.memory.Memory.place_next.Goals as goal
@@ -25,20 +25,20 @@ returns-in-Movement c =
       size = refl;
     }
 
-pub offset-bounds-self-j : goal.offset-bounds-self-j
-offset-bounds-self-j c = let i = inside_some c in let f = few_some c in omega arith
+pub offset_bounds-self-j : goal.offset_bounds-self-j
+offset_bounds-self-j c = let i = inside_some c in let f = few_some c in omega arith
 
 pub bounds-self-j : goal.bounds-self-j
 bounds-self-j c = let i = inside_some c in let f = few_some c in omega arith
 
-pub offset-bounds-self-accounts : goal.offset-bounds-self-accounts
-offset-bounds-self-accounts c = let f = few_none c in omega arith
+pub offset_bounds-self-accounts : goal.offset_bounds-self-accounts
+offset_bounds-self-accounts c = let f = few_none c in omega arith
 
 pub bounds-self-accounts : goal.bounds-self-accounts
 bounds-self-accounts c = let f = few_none c in omega arith
 
-pub overflow-add-result : goal.overflow-add-result
-overflow-add-result c = let f = few_none c in omega arith
+pub overflow_add-result : goal.overflow_add-result
+overflow_add-result c = let f = few_none c in omega arith
 
 pub returns-in-Some : goal.returns-in-Some
 returns-in-Some c =

@@ -1,4 +1,4 @@
-use Rattle.std.proofs.Common.{◌≡◌, ◌≤◌, take, sym, refl, ap, ◌∙◌, arith}
+use Rattle.std.proofs.Common.{take, sym, refl, ap, ◌∙◌, arith}
 use Rattle.cashbook.specs.Sounding.{all_counted}
 use Rattle.cashbook.proofs.Counting.{all_long}
 use Rattle.tablebook.specs.Memory.{rows_in, places_in}

@@ -1,19 +1,18 @@
-use Rattle.std.proofs.Common.{◌≡◌, ℕ, ◌≤◌, Ok, refl, ap, ◌∙◌, arith}
+use Rattle.std.proofs.Common.{Ok, refl, ap, ◌∙◌, arith}
 use Rattle.cashbook.specs.Counting.{figures, used}
 use Rattle.cashbook.proofs.Counting.{cancelled_done, cancelled_numbers}
 use Rattle.rows.specs.Rows.{is_row}
 use Rattle.recordbytes.proofs.Each.{every_fewer}
-use Rattle.tablebook.proofs.Standing.{stands}
 use Rattle.tablebook.proofs.table.calls.TableBookBook.cancel.Goals as goal
 
-pub invariant-of-self : goal.invariant-of-self
-invariant-of-self c =
+pub invariant_of-self-clause-fine : goal.invariant_of-self-clause-fine
+invariant_of-self-clause-fine c =
     let s = c.args.self.now in
-    let n = cancelled_numbers s.counts.capacity s.counts.kept s.counts.batch (figures c.in-ok-counts.counts) c.in-ok-counts.ensures in
-    stands (figures c.in-ok-counts.counts) s.memory.rows.now s.accounts s.memory.places.now _ _ _ n s.backed s.placed (every_fewer is_row (used (figures s.counts)) s.counts.kept s.memory.rows.now (omega arith) s.fine) s.step
+    let n = cancelled_numbers s.counts.capacity s.counts.kept s.counts.batch (figures c.in_ok-counts.counts) c.in_ok-counts.ensures in
+    rw n.used_is (every_fewer is_row (used (figures s.counts)) s.counts.kept s.memory.rows.now (omega arith) s.fine)
 
 pub returns : goal.returns
 returns c =
     let s = c.args.self.now in
-    let m = cancelled_done s.counts.capacity s.counts.kept s.memory.rows.now s.counts.batch (figures c.in-ok-counts.counts) (let r = s.counts.room in let b = s.backed in omega arith) c.in-ok-counts.ensures in
-    record { answers = ap Ok c.batch_rows.ensures ∙ m.answers; leaves = m.leaves; rows = refl; places = refl }
+    let m = cancelled_done s.counts.capacity s.counts.kept s.memory.rows.now s.counts.batch (figures c.in_ok-counts.counts) (let r = s.counts.room in let b = s.backed in omega arith) c.in_ok-counts.ensures in
+    record { answers = ap Ok c.batch-rows.ensures ∙ m.answers; leaves = m.leaves; rows = refl; places = refl }

@@ -1,4 +1,4 @@
-use Rattle.std.proofs.Common.{◌≡◌, ℕ, take, sym, ap, ◌∙◌}
+use Rattle.std.proofs.Common.{take, sym, ap, ◌∙◌}
 use Rattle.cashbook.specs.Questions.{latest}
 use Rattle.cashbook.specs.Sounding.{all_counted}
 use Rattle.cashbook.proofs.Answering.{told_of}

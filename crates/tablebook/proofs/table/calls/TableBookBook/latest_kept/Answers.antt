@@ -1,13 +1,12 @@
-use Rattle.std.proofs.Common.{◌≡◌, ℕ, true, take, sym, subst, arith}
+use Rattle.std.proofs.Common.{take, sym, subst, arith}
 use Rattle.cashbook.specs.Counting.{figures, used}
-use Rattle.cashbook.specs.Meaning.{are_rows}
 use Rattle.rows.specs.Rows.{is_row}
 use Rattle.recordbytes.proofs.Each.{every_fewer}
 use Rattle.tablebook.specs.Held.{InStep}
 use Rattle.tablebook.proofs.table.calls.TableBookBook.latest_kept.Goals as goal
 
-pub latest-kept-requires : goal.latest-kept-requires
-latest-kept-requires c =
+pub latest_kept-requires : goal.latest_kept-requires
+latest_kept-requires c =
     let s = c.args.self.now in
     let kept = c.kept-kept.ensures in
     let backed = s.backed in
