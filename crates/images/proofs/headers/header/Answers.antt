@@ -5,4 +5,4 @@ use Rattle.images.proofs.headers.header.Goals as goal
 
 pub returns : goal.returns
 unfolding header
-returns c = c.to-bytes.ensures ∙ ap (λ numbers. joined (map four_bytes numbers)) c.header_numbers.ensures
+returns c = c.to_bytes.ensures ∙ ap (λ numbers. joined (map four_bytes numbers)) c.header_numbers.ensures

@@ -7,10 +7,10 @@ use Rattle.rowbytes.proofs.writes.join_movement.Goals as goal
 
 pub padded-requires : goal.padded-requires
 padded-requires c =
-    let same = same_movement c.args.m.now (c.from-ref.ensures.value ∙ ap (λ b. b ∷ []) c.requires.first) c.from-ref-2.ensures.value c.from-ref-3.ensures.value in
+    let same = same_movement c.args.m.now (c.from_ref.ensures.value ∙ ap (λ b. b ∷ []) c.requires.first) c.from_ref-2.ensures.value c.from_ref-3.ensures.value in
     subst (λ (parts : List (List ℕ)). length (joined parts) ≤ 256) (sym same) (movement_within c.args.m.now c.requires.fine)
 
 pub returns : goal.returns
 returns c =
-    let same = same_movement c.args.m.now (c.from-ref.ensures.value ∙ ap (λ b. b ∷ []) c.requires.first) c.from-ref-2.ensures.value c.from-ref-3.ensures.value in
+    let same = same_movement c.args.m.now (c.from_ref.ensures.value ∙ ap (λ b. b ∷ []) c.requires.first) c.from_ref-2.ensures.value c.from_ref-3.ensures.value in
     c.padded.ensures ∙ ap padded same

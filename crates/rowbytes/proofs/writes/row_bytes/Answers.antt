@@ -3,18 +3,18 @@ use Rattle.rows.specs.Rows.{is_row}
 use Rattle.rowbytes.specs.RowBytes.{row_bytes}
 use Rattle.rowbytes.proofs.writes.row_bytes.Goals as goal
 
-pub movement-bytes-requires : goal.movement-bytes-requires
+pub movement_bytes-requires : goal.movement_bytes-requires
 unfolding is_row
-movement-bytes-requires c = c.in-Movement.ensures.fine
+movement_bytes-requires c = c.in-Movement.ensures.fine
 
-pub statement-bytes-requires : goal.statement-bytes-requires
+pub statement_bytes-requires : goal.statement_bytes-requires
 unfolding is_row
-statement-bytes-requires c = c.in-Statement.ensures.fine
+statement_bytes-requires c = c.in-Statement.ensures.fine
 
 pub returns-in-Movement : goal.returns-in-Movement
 unfolding row_bytes
-returns-in-Movement c = c.movement-bytes.ensures ∙ ap row_bytes c.in-Movement.ensures.value
+returns-in-Movement c = c.movement_bytes.ensures ∙ ap row_bytes c.in-Movement.ensures.value
 
 pub returns-in-Statement : goal.returns-in-Statement
 unfolding row_bytes
-returns-in-Statement c = c.statement-bytes.ensures ∙ ap row_bytes c.in-Statement.ensures.value
+returns-in-Statement c = c.statement_bytes.ensures ∙ ap row_bytes c.in-Statement.ensures.value

@@ -14,13 +14,13 @@ balance-new-requires c =
     let f : SFits w64 c.args.s.now.new_balance = search rules in
     ap is_amount (to_z-of_z w64 c.args.s.now.new_balance f) ∙ new_balance_fine c.args.s.now c.requires
 
-pub join-statement-requires : goal.join-statement-requires
-join-statement-requires c =
+pub join_statement-requires : goal.join_statement-requires
+join_statement-requires c =
     let f : SFits w64 c.args.s.now.old_balance = search rules in
     let g : SFits w64 c.args.s.now.new_balance = search rules in
     record {
       fine = c.requires;
       opening = c.balance-old.ensures ∙ ap written (to_z-of_z w64 c.args.s.now.old_balance f);
       closing = c.balance-new.ensures ∙ ap written (to_z-of_z w64 c.args.s.now.new_balance g);
-      number = c.six-digits.ensures;
+      number = c.six_digits.ensures;
     }

@@ -1,4 +1,4 @@
-use Rattle.std.proofs.Common.{◌≡◌, ℕ, ◌+◌, ◌-◌, ◌≤◌, List, Some, sym, ap, ◌∙◌, arith}
+use Rattle.std.proofs.Common.{◌≡◌, ◌-◌, Some, sym, ap, ◌∙◌, arith}
 use Rattle.cashbook.specs.Questions.{latest}
 use Rattle.rowbytes.specs.RowBytes.{is_statement_of}
 use Rattle.images.specs.Images.{image_rows}
@@ -6,19 +6,19 @@ use Rattle.images.proofs.Written.{piece_written}
 use Rattle.images.proofs.Seeking.{no_rows, part_is, image_latest_here, image_latest_before}
 use Rattle.imagebook.proofs.image.reading.latest_row.Goals as goal
 
-pub row-at-requires : goal.row-at-requires
-row-at-requires c =
+pub row_at-requires : goal.row_at-requires
+row_at-requires c =
     let room = c.requires.inside (omega arith) in
     (omega arith, piece_written c.args.count (c.loop-i.i - 1) c.args.bytes.now (omega arith) c.requires.exact)
 
-pub returns-then-is-statement-of : goal.returns-then-is-statement-of
-returns-then-is-statement-of c =
-    let t = ap (is_statement_of c.args.account.now) (sym (part_is (c.loop-i.i - 1) c.args.bytes.now)) ∙ sym c.if-is-statement-of.ensures in
-    sym (c.loop-i.invariant.1 ∙ (image_latest_here c.args.account.now c.args.bytes.now c.loop-i.i (omega arith) t ∙ ap Some (sym c.row-at.ensures)))
+pub returns-then-is_statement_of : goal.returns-then-is_statement_of
+returns-then-is_statement_of c =
+    let t = ap (is_statement_of c.args.account.now) (sym (part_is (c.loop-i.i - 1) c.args.bytes.now)) ∙ sym c.if-is_statement_of.ensures in
+    sym (c.loop-i.invariant.1 ∙ (image_latest_here c.args.account.now c.args.bytes.now c.loop-i.i (omega arith) t ∙ ap Some (sym c.row_at.ensures)))
 
 pub loop-i-preserved : goal.loop-i-preserved
 loop-i-preserved c =
-    let t = ap (is_statement_of c.args.account.now) (sym (part_is (c.loop-i.i - 1) c.args.bytes.now)) ∙ sym c.if-is-statement-of.ensures in
+    let t = ap (is_statement_of c.args.account.now) (sym (part_is (c.loop-i.i - 1) c.args.bytes.now)) ∙ sym c.if-is_statement_of.ensures in
     (omega arith, c.loop-i.invariant.1 ∙ image_latest_before c.args.account.now c.args.bytes.now c.loop-i.i (omega arith) t)
 
 pub returns : goal.returns

@@ -1,4 +1,4 @@
-use Rattle.std.proofs.Common.{◌≡◌, ◌≤◌, take}
+use Rattle.std.proofs.Common.{◌≡◌, ◌≤◌}
 use Rattle.cashbook.specs.Questions.{latest}
 use Rattle.images.specs.Images.{image_rows}
 use Rattle.imagebook.proofs.image.reading.latest_row.Given as goal

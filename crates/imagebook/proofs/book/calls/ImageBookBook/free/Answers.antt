@@ -1,4 +1,4 @@
-use Rattle.std.proofs.Common.{◌≡◌, ◌≤◌, ◌∙◌, arith}
+use Rattle.std.proofs.Common.{arith}
 use Rattle.cashbook.proofs.Counting.{counted_free}
 use Rattle.images.specs.Images.{image_rows}
 use Rattle.imagebook.proofs.Standing.{rows_long}
@@ -9,4 +9,5 @@ returns c =
     let s = c.args.self.now in
     let long = rows_long s.counts.capacity s.image.bytes.now in
     let room = s.counts.room in
-    c.free.ensures ∙ counted_free s.counts.capacity s.counts.kept (image_rows s.counts.capacity s.image.bytes.now) s.counts.batch (omega arith)
+    let told = counted_free s.counts.capacity s.counts.kept (image_rows s.counts.capacity s.image.bytes.now) s.counts.batch (omega arith) in
+    cc

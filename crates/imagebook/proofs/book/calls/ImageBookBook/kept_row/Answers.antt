@@ -1,4 +1,4 @@
-use Rattle.std.proofs.Common.{◌≡◌, ◌-◌, ◌≤◌, sym, ap, ◌∙◌, inl, inr, ⊎_elim, arith}
+use Rattle.std.proofs.Common.{◌-◌, sym, ◌∙◌, inl, inr, ⊎_elim, arith}
 use Rattle.cashbook.specs.Counting.{figures, used}
 use Rattle.cashbook.proofs.Answering.{found, missed}
 use Rattle.cashbook.proofs.Counting.{kept_row_at, no_row}
