@@ -2,7 +2,7 @@
 #![tactic(auto)]
 
 ghost use Rattle.std.specs.Prelude.{◌≡◌, ◌+◌, ◌^◌, ◌<◌, ◌≤◌, length, unsigned_abs};
-ghost use Rattle.recordbytes.specs.Numbers.{value as value_of_lem};
+ghost use Rattle.recordbytes.specs.Numbers.{value as value_of};
 ghost use Rattle.recordbytes.specs.Spans.{span as span_of};
 ghost use Rattle.values.specs.Money.{signed as signed_of};
 ghost use Rattle.grammar.specs.Fields.{byte_at, is_one, signed_amount, old_amount, new_amount, digit_of, sequence, detail, reference, next, link, is_debit, amount, type, level, old_account, new_account, count, debit_sum, credit_sum, another};
@@ -15,7 +15,7 @@ type Bytes = [u8; RECORD_LENGTH];
 // The number in the digits at some positions, at most fifteen.
 fn number_at(bytes: &Bytes, first: usize, last: usize) -> u64
     requires { last ≤ first + 14 }
-    ensures value { result ≡ value_of_lem (span_of bytes.now first last) }
+    ensures value { result ≡ value_of (span_of bytes.now first last) }
     ensures bound { result < 2 ^ 55 }
 {
     number(span(bytes, first, last))
@@ -24,7 +24,7 @@ fn number_at(bytes: &Bytes, first: usize, last: usize) -> u64
 // The thousandths that a sign byte and the digits at some positions mean.
 fn signed_at(bytes: &Bytes, sign: u8, first: usize, last: usize) -> i64
     requires { last ≤ first + 14 }
-    ensures value { result ≡ signed_of sign (value_of_lem (span_of bytes.now first last)) }
+    ensures value { result ≡ signed_of sign (value_of (span_of bytes.now first last)) }
     ensures bound { unsigned_abs result < 2 ^ 55 }
 {
     signed(sign, span(bytes, first, last))

@@ -1,14 +1,14 @@
 // Numbers written in digits.
 ghost use Rattle.std.specs.Prelude.{◌≡◌, ◌^◌, ◌<◌, ◌≤◌, length, take};
-ghost use Rattle.recordbytes.specs.Numbers.{value as value_of_lem, digits as digits_of, DigitsWriteNumbers};
+ghost use Rattle.recordbytes.specs.Numbers.{value as value_of, digits as digits_of, DigitsWriteNumbers};
 
 // The most digits that a field has.
 pub const MOST_DIGITS: usize = 15;
 
 // The number in the first fifteen digits, which are all that a field has.
 pub fn number(digits: &[u8]) -> u64
-    ensures value { result ≡ value_of_lem (take 15 digits.now) }
-    ensures whole { length digits.now ≤ 15 → result ≡ value_of_lem digits.now }
+    ensures value { result ≡ value_of (take 15 digits.now) }
+    ensures whole { length digits.now ≤ 15 → result ≡ value_of digits.now }
     ensures bound { result < 2 ^ 55 }
 {
     let width = digits.len().min(MOST_DIGITS);
@@ -17,7 +17,7 @@ pub fn number(digits: &[u8]) -> u64
 
 fn number_of_few(digits: &[u8]) -> u64
     requires { length digits.now ≤ 15 }
-    ensures value { result ≡ value_of_lem digits.now }
+    ensures value { result ≡ value_of digits.now }
     ensures bound { result < 2 ^ 55 }
 {
     let mut number: u64 = 0;

@@ -2,7 +2,7 @@
 #![tactic(auto)]
 
 ghost use Rattle.std.specs.Prelude.{◌≡◌};
-ghost use Rattle.grammar.specs.Faults.{record_number, record_position, statement_number, statement_position, fault_number as number_of_lem, fault_record as record_of, fault_position as position_of, fault_cause as cause_of};
+ghost use Rattle.grammar.specs.Faults.{record_number, record_position, statement_number, statement_position, fault_number as number_of, fault_record as record_of, fault_position as position_of, fault_cause as cause_of};
 
 use grammar::{FileFault, RecordFault, StatementFault};
 
@@ -49,7 +49,7 @@ pub fn statement_position(fault: StatementFault) -> usize
 }
 
 pub fn fault_number(fault: FileFault) -> usize
-    ensures { result ≡ number_of_lem fault }
+    ensures { result ≡ number_of fault }
 {
     match fault {
         FileFault::Source(_) => 1,

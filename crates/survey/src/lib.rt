@@ -4,7 +4,7 @@
 ghost use Rattle.std.specs.Prelude.{◌≡◌, ℕ, ◌+◌, ◌^◌, ◌<◌, length, if◌then◌else◌, ◌≢◌};
 ghost use Rattle.source.specs.declared.source.Fetched.TheVariants.{Absent};
 ghost use Rattle.survey.specs.declared.Sort.{Sort as SortOf};
-ghost use Rattle.survey.specs.Sorts.{number as number_of_lem, is_same, sort_by, tally, count_in};
+ghost use Rattle.survey.specs.Sorts.{number as number_of, is_same, sort_by, tally, count_in};
 ghost use Rattle.survey.specs.Fetches.{fetched_sort};
 
 use layout::{Kind, kind_of};
@@ -28,7 +28,7 @@ pub struct Survey {
 }
 
 fn number(sort: Sort) -> usize
-    ensures value { result ≡ number_of_lem sort }
+    ensures value { result ≡ number_of sort }
     ensures bound { result < 13 }
 {
     match sort {

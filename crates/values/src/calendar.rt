@@ -1,6 +1,6 @@
 // Which six bytes are a day, and which of two days is the earlier.
 ghost use Rattle.std.specs.Prelude.{◌≡◌, ◌+◌, ◌^◌, ◌<◌, ◌≤◌};
-ghost use Rattle.recordbytes.specs.Numbers.{value as value_of_lem};
+ghost use Rattle.recordbytes.specs.Numbers.{value as value_of};
 ghost use Rattle.recordbytes.specs.Spans.{span as span_of};
 ghost use Rattle.values.specs.Days.{full_year, date_of, is_leap, days_of_month, is_date, is_day, is_earlier};
 
@@ -25,7 +25,7 @@ fn full_year(digits: u64) -> u64
 // The number that the digits at two neighbouring positions write.
 fn two_digits(bytes: &[u8], first: usize, last: usize) -> u64
     requires { last ≤ first + 1 }
-    ensures value { result ≡ value_of_lem (span_of bytes.now first last) }
+    ensures value { result ≡ value_of (span_of bytes.now first last) }
     ensures bound { result < 2 ^ 55 }
 {
     number(span(bytes, first, last))
