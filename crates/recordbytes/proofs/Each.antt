@@ -24,7 +24,7 @@ module _ {X : Type 0} (test : X → Bool) where
   every_at (suc n) zero (x ∷ xs) d inside room t = (and_parts (test x) (every test (take n xs)) t).0
   every_at (suc n) (suc i) (x ∷ xs) d inside room t = every_at n i xs d (omega arith) (omega arith) (and_parts (test x) (every test (take n xs)) t).1
 
-  every_push : (xs : List X) (x : X) → every test xs ≡ true → test x ≡ true → every test (xs ++ x ∷ []) ≡ true
+  pub every_push : (xs : List X) (x : X) → every test xs ≡ true → test x ≡ true → every test (xs ++ x ∷ []) ≡ true
   every_push [] x t is = and_from (test x) true is refl
   every_push (y ∷ xs) x t is = let h = and_parts (test y) (every test xs) t in and_from (test y) (every test (xs ++ x ∷ [])) h.0 (every_push xs x h.1 is)
 

@@ -1,27 +1,10 @@
 -- A walk over bytes, turn by turn, for any test.
-use Rattle.std.proofs.Common.{◌≡◌, ℕ, zero, suc, ◌+◌, ◌-◌, ◌<◌, ◌≤◌, Bool, true, false, cond, not, ◌&&◌, List, [], ◌∷◌, length, get_or, drop, is_some, Some, None, Option, sym, refl, ap, ◌∙◌, arith}
+use Rattle.std.proofs.Common.{◌≡◌, ℕ, zero, suc, ◌+◌, ◌-◌, ◌<◌, ◌≤◌, Bool, true, false, cond, not, ◌&&◌, List, [], ◌∷◌, length, get_or, drop, is_some, Some, None, Option, sym, refl, ap, ◌∙◌, ⊎_elim, arith}
 use mathlib.Core.Path.{subst⁻¹}
 use native.Mathlib.Nat.{sub_self}
 use Rattle.std.proofs.lemmas.List.{at_drop_more, at_drop_all}
-use Rattle.std.proofs.lemmas.Bool.{cond-true, cond-false, and_parts, cond_both}
+use Rattle.std.proofs.lemmas.Bool.{cond-true, and_parts, cond_both, cases_lt}
 use Rattle.recordbytes.specs.Walks.{all, first_failing_from, first_failing, FirstFailing}
-
-module _ (test : ℕ → Bool) (bytes : List ℕ) (i : ℕ) where
-  -- what is left to walk at the place i
-  abbrev pub Left : Type 0
-  Left = first_failing_from test i (drop i bytes) ≡ first_failing test bytes
-
-  step : i < length bytes → first_failing_from test i (drop i bytes) ≡ cond (test (get_or bytes i 0)) (first_failing_from test (i + 1) (drop (i + 1) bytes)) (Some i)
-  step inside = at_drop_more (first_failing_from test i) bytes i 0 inside
-
-  pub walk_more : i < length bytes → test (get_or bytes i 0) ≡ true → Left → first_failing_from test (i + 1) (drop (i + 1) bytes) ≡ first_failing test bytes
-  walk_more inside passes left = sym (cond-true _ (first_failing_from test (i + 1) (drop (i + 1) bytes)) (Some i) passes) ∙ (sym (step inside) ∙ left)
-
-  pub walk_stop : i < length bytes → test (get_or bytes i 0) ≡ false → Left → Some i ≡ first_failing test bytes
-  walk_stop inside fails left = sym (cond-false _ (first_failing_from test (i + 1) (drop (i + 1) bytes)) (Some i) fails) ∙ (sym (step inside) ∙ left)
-
-  pub walk_end : length bytes ≤ i → Left → None ≡ first_failing test bytes
-  walk_end behind left = sym (at_drop_all (first_failing_from test i) bytes i behind) ∙ left
 
 and_assoc : (a b c : Bool) → ((a && b) && c) ≡ (a && (b && c))
 and_assoc true b c = refl
@@ -41,20 +24,7 @@ module _ (test : ℕ → Bool) (bytes : List ℕ) (i : ℕ) (ok : Bool) where
   pub all_end : length bytes ≤ i → (ok && all test (drop i bytes)) ≡ all test bytes → ok ≡ all test bytes
   all_end behind left = sym (and_true ok) ∙ (ap (λ v. ok && v) (sym (at_drop_all (all test) bytes i behind)) ∙ left)
 
--- no byte fails exactly where all pass
-none_fails : (test : ℕ → Bool) (i : ℕ) (bytes : List ℕ) → is_some (first_failing_from test i bytes) ≡ not (all test bytes)
-none_fails test i [] = refl
-none_fails test i (x ∷ xs) = elim (test x) as (λ v. is_some (cond v (first_failing_from test (i + 1) xs) (Some i)) ≡ not (v && all test xs)) [ true ↦ none_fails test (i + 1) xs | false ↦ refl ]
-
-not_same : (a b : Bool) → not a ≡ not b → a ≡ b
-not_same true true e = refl
-not_same true false e = sym e
-not_same false true e = sym e
-not_same false false e = refl
-
-pub none_all : (test : ℕ → Bool) (bytes : List ℕ) (o : Option ℕ) (r : Bool) → o ≡ first_failing test bytes → is_some o ≡ not r → r ≡ all test bytes
-none_all test bytes o r e t = not_same r (all test bytes) (sym t ∙ (ap is_some e ∙ none_fails test 0 bytes))
-
+-- where all pass none fails
 pub all_none : (test : ℕ → Bool) (i : ℕ) (bytes : List ℕ) → all test bytes ≡ true → first_failing_from test i bytes ≡ None
 all_none test i [] t = refl
 all_none test i (x ∷ xs) t = let h = and_parts (test x) (all test xs) t in cond-true (test x) (first_failing_from test (i + 1) xs) (Some i) h.0 ∙ all_none test (i + 1) xs h.1
@@ -93,9 +63,25 @@ from_zero test bytes (Some j) h =
     let n : j - 0 ≡ j = omega arith in
     (omega (arith, h.1.0), ap (λ k. test (get_or bytes k 0)) (sym n) ∙ h.1.1, λ k l. h.1.2 k (omega arith))
 
+-- a byte that passes does not fail
+apart : {b : Bool} → b ≡ true → b ≡ false → ⊥
+apart p q = let z : ◌≡◌ {A = ℕ} 0 1 = cc in omega arith
+
 -- the first failing byte by definition is the first failing byte
 pub first_failing_named : (test : ℕ → Bool) (bytes : List ℕ) → FirstFailing test bytes (first_failing test bytes)
 first_failing_named test bytes = from_zero test bytes (first_failing test bytes) (first_from test 0 bytes)
 
-pub first_is : (test : ℕ → Bool) (bytes : List ℕ) (o : Option ℕ) → o ≡ first_failing test bytes → FirstFailing test bytes o
-first_is test bytes o e = subst⁻¹ (λ (v : Option ℕ). FirstFailing test bytes v) e (first_failing_named test bytes)
+-- and the only one
+one_first : (test : ℕ → Bool) (bytes : List ℕ) (o p : Option ℕ) → FirstFailing test bytes o → FirstFailing test bytes p → o ≡ p
+one_first test bytes None None h k = refl
+one_first test bytes None (Some j) h k = absurd (apart (h j k.0) k.1)
+one_first test bytes (Some i) None h k = absurd (apart (k i h.0) h.1)
+one_first test bytes (Some i) (Some j) h k =
+    ⊎_elim
+    (λ less. absurd (apart (k.2 i less) h.1))
+    (λ not_less.
+    ⊎_elim (λ more. absurd (apart (h.2 j more) k.1)) (λ not_more. ap Some (omega (arith, not_less, not_more))) (cases_lt j i))
+    (cases_lt i j)
+
+pub only_first : (test : ℕ → Bool) (bytes : List ℕ) (o : Option ℕ) → FirstFailing test bytes o → o ≡ first_failing test bytes
+only_first test bytes o h = one_first test bytes o (first_failing test bytes) h (first_failing_named test bytes)

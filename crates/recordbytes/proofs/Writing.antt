@@ -5,6 +5,7 @@ use Rattle.std.proofs.lemmas.Bool.{and_parts, and_from, leb-true, le-leb}
 use Rattle.std.proofs.lemmas.List.{length_push, append-nil, append_assoc, drop-set, drop_all, length-set}
 use Rattle.recordbytes.specs.Classes.{is_digit}
 use Rattle.recordbytes.specs.Walks.{all}
+use Rattle.recordbytes.proofs.Each.{every_push}
 use Rattle.recordbytes.specs.Numbers.{value_behind, value, digits, DigitsWriteNumbers}
 
 digits_none : (n : ℕ) → digits 0 n ≡ []
@@ -39,10 +40,6 @@ length_digits zero n = refl
 length_digits (suc width) n = length_push (digits width (n / 10)) (48 + n % 10) ∙ omega (arith, length_digits width (n / 10))
 
 -- one byte more behind
-all_push : (test : ℕ → Bool) (bytes : List ℕ) (byte : ℕ) → all test bytes ≡ true → test byte ≡ true → all test (bytes ++ (byte ∷ [])) ≡ true
-all_push test [] byte t u = and_from (test byte) true u refl
-all_push test (x ∷ xs) byte t u = let h = and_parts (test x) (all test xs) t in and_from (test x) (all test (xs ++ (byte ∷ []))) h.0 (all_push test xs byte h.1 u)
-
 value_push : (n : ℕ) (bytes : List ℕ) (byte : ℕ) → value_behind n (bytes ++ (byte ∷ [])) ≡ value_behind n bytes * 10 + (byte - 48)
 value_push n [] byte = refl
 value_push n (x ∷ xs) byte = value_push (n * 10 + (x - 48)) xs byte
@@ -50,7 +47,7 @@ value_push n (x ∷ xs) byte = value_push (n * 10 + (x - 48)) xs byte
 all_digits : (width n : ℕ) → all is_digit (digits width n) ≡ true
 unfolding digits
 all_digits zero n = refl
-all_digits (suc width) n = all_push is_digit (digits width (n / 10)) (48 + n % 10) (all_digits width (n / 10)) (digit_is n)
+all_digits (suc width) n = every_push is_digit (digits width (n / 10)) (48 + n % 10) (all_digits width (n / 10)) (digit_is n)
 
 value_digits : (width n : ℕ) → n < 10 ^ width → value (digits width n) ≡ n
 unfolding digits

@@ -1,11 +1,11 @@
 -- Walks over bytes.
 --   all             every byte passes a test
 --   first_failing   the place, counted from 0, of the first byte that fails a test
-use Rattle.std.specs.Prelude.{◌≡◌, ℕ, ◌+◌, ◌<◌, Bool, true, false, cond, ◌&&◌, List, [], ◌∷◌, length, Some, None, Option, slice_index}
+use Rattle.std.specs.Prelude.{◌≡◌, ℕ, ◌+◌, ◌<◌, Bool, true, false, cond, List, [], ◌∷◌, length, Some, None, Option, slice_index}
+use Rattle.recordbytes.specs.Each.{every}
 
 abbrev pub all : (ℕ → Bool) → List ℕ → Bool
-all test [] = true
-all test (byte ∷ rest) = test byte && all test rest
+all = every
 
 -- the same place, counted from i
 abbrev pub first_failing_from : (ℕ → Bool) → ℕ → List ℕ → Option ℕ

@@ -7,14 +7,15 @@ mod spans;
 mod walks;
 
 pub use class::{ByteClass, Digit, Plain, Space};
-pub use numbers::{MOST_DIGITS, digits_write_numbers, number, write_digits};
-pub use spans::{same_bytes, span};
-pub use walks::{
-    all_digits, all_plain, all_spaces, first_forbidden, first_non_digit, first_non_space,
-};
+pub use numbers::{MOST_DIGITS, digits_write_numbers, number, number_at, write_digits};
+pub use spans::span;
+pub use walks::{all_inside, first_outside};
 
 // The number of bytes in a record.
 pub const RECORD_LENGTH: usize = 128;
+
+// The bytes of a record.
+pub type RecordBytes = [u8; RECORD_LENGTH];
 
 #[cfg(test)]
 mod tests;

@@ -1,6 +1,9 @@
 // Numbers written in digits.
-ghost use Rattle.std.specs.Prelude.{◌≡◌, ◌^◌, ◌<◌, ◌≤◌, length, take};
+ghost use Rattle.std.specs.Prelude.{◌≡◌, ◌+◌, ◌^◌, ◌<◌, ◌≤◌, length, take};
+ghost use Rattle.recordbytes.specs.Spans.{span as span_of};
 ghost use Rattle.recordbytes.specs.Numbers.{value as value_of, digits as digits_of, DigitsWriteNumbers};
+
+use crate::spans::span;
 
 // The most digits that a field has.
 pub const MOST_DIGITS: usize = 15;
@@ -27,14 +30,20 @@ fn number_of_few(digits: &[u8]) -> u64
     number
 }
 
+// The number in the digits at the positions `first` to `last`, of which there are at most fifteen.
+pub fn number_at(bytes: &[u8], first: usize, last: usize) -> u64
+    ensures value { last ≤ first + 14 → result ≡ value_of (span_of bytes.now first last) }
+    ensures bound { result < 2 ^ 55 }
+{
+    number(span(bytes, first, last))
+}
+
 // Writes the last digits of a number, as many as there is room for.
 pub fn write_digits(out: &mut [u8], number: u64)
     ensures { out.new ≡ digits_of (length out.old) number }
 {
     let mut rest = number;
-    let mut i = out.len();
-    while i > 0 {
-        i -= 1;
+    for i in (0..out.len()).rev() {
         out[i] = (rest % 10) as u8 + b'0';
         rest /= 10;
     }

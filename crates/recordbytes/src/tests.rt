@@ -2,19 +2,19 @@ use crate::*;
 
 #[test]
 fn walks_name_the_first_byte_outside(rt: HostRuntime) {
-    assert_eq!(rt; first_non_digit(b"12x4"), Some(2));
-    assert_eq!(rt; first_non_digit(b""), None);
-    assert_eq!(rt; first_non_space(b"  -"), Some(2));
-    assert_eq!(rt; first_forbidden(b"ab\x7fc"), Some(2));
-    assert_eq!(rt; first_forbidden(b"\x1f"), Some(0));
-    assert_eq!(rt; first_forbidden(b"\x80 ~"), None);
+    assert_eq!(rt; first_outside::<Digit>(b"12x4"), Some(2));
+    assert_eq!(rt; first_outside::<Digit>(b""), None);
+    assert_eq!(rt; first_outside::<Space>(b"  -"), Some(2));
+    assert_eq!(rt; first_outside::<Plain>(b"ab\x7fc"), Some(2));
+    assert_eq!(rt; first_outside::<Plain>(b"\x1f"), Some(0));
+    assert_eq!(rt; first_outside::<Plain>(b"\x80 ~"), None);
 }
 
 #[test]
 fn spans_stop_at_the_end(rt: HostRuntime) {
-    assert!(rt; same_bytes(span(b"abcdef", 2, 4), b"bcd"));
-    assert!(rt; same_bytes(span(b"abc", 3, 9), b"c"));
-    assert!(rt; same_bytes(span(b"abc", 4, 9), b""));
+    assert!(rt; span(b"abcdef", 2, 4) == b"bcd");
+    assert!(rt; span(b"abc", 3, 9) == b"c");
+    assert!(rt; span(b"abc", 4, 9) == b"");
 }
 
 #[test]

@@ -4,6 +4,3 @@ use Rattle.recordbytes.proofs.numbers.write_digits.Given as goal
 
 abbrev pub invariant-loop-i : goal.invariant-loop-i
 invariant-loop-i l = (l.i ≤ length l.out) × Unwritten l.out l.i l.rest l.number
-
-abbrev pub decreases-loop-i : goal.decreases-loop-i
-decreases-loop-i l = l.i
