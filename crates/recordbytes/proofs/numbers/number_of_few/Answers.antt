@@ -1,5 +1,5 @@
 use Rattle.std.proofs.Common.{◌≤◌, arith, rules}
-use Rattle.recordbytes.proofs.Numbering.{ten_more, ten_upto, value_more, value_end}
+use Rattle.recordbytes.proofs.Numbering.{ten_upto, value_end}
 use Rattle.recordbytes.proofs.numbers.number_of_few.Goals as goal
 
 pub overflow_mul-number : goal.overflow_mul-number
@@ -7,12 +7,6 @@ overflow_mul-number c = let h : c.loop-byte.byte-index ≤ 14 = omega arith in r
 
 pub overflow_add-number : goal.overflow_add-number
 overflow_add-number c = let h : c.loop-byte.byte-index ≤ 14 = omega arith in record { fits = omega (arith, ten_upto c.loop-byte.byte-index 14 h) }
-
-pub loop-byte-preserved : goal.loop-byte-preserved
-loop-byte-preserved c = (
-  value_more c.args.digits.now c.loop-byte.byte-index c.loop-byte.number c.saturating_sub.result (search rules) c.saturating_sub.ensures c.loop-byte.invariant.0,
-  omega (arith, ten_more c.loop-byte.byte-index, (c.type_inv.digits c.loop-byte.byte-index).fits),
-)
 
 pub returns : goal.returns
 returns c =
