@@ -1,27 +1,8 @@
 -- A walk over bytes, turn by turn, for any test.
-use Rattle.std.proofs.Common.{◌≡◌, ℕ, zero, suc, ◌+◌, ◌-◌, ◌<◌, ◌≤◌, Bool, true, false, ◌&&◌, List, [], ◌∷◌, length, get_or, drop, Some, None, Option, sym, refl, ap, ◌∙◌, ⊎_elim, arith}
+use Rattle.std.proofs.Common.{◌≡◌, ℕ, zero, suc, ◌+◌, ◌-◌, ◌<◌, ◌≤◌, Bool, true, false, List, [], ◌∷◌, length, get_or, Some, None, Option, sym, refl, ap, ◌∙◌, ⊎_elim, arith}
 use native.Mathlib.Nat.{sub_self}
-use Rattle.std.proofs.lemmas.List.{at_drop_more, at_drop_all}
 use Rattle.std.proofs.lemmas.Bool.{cond-true, and_parts, cond_both, cases_lt}
 use Rattle.recordbytes.specs.Walks.{all, first_failing_from, first_failing, FirstFailing}
-
-and_assoc : (a b c : Bool) → ((a && b) && c) ≡ (a && (b && c))
-and_assoc true b c = refl
-and_assoc false b c = refl
-
-and_true : (a : Bool) → (a && true) ≡ a
-and_true true = refl
-and_true false = refl
-
--- the same with no early way out
-module _ (test : ℕ → Bool) (bytes : List ℕ) (i : ℕ) (ok : Bool) where
-  pub all_more : (r : Bool) → i < length bytes → r ≡ test (get_or bytes i 0) → (ok && all test (drop i bytes)) ≡ all test bytes → ((ok && r) && all test (drop (i + 1) bytes)) ≡ all test bytes
-  all_more r inside e left =
-      let s : all test (drop i bytes) ≡ (test (get_or bytes i 0) && all test (drop (i + 1) bytes)) = at_drop_more (all test) bytes i 0 inside in
-      and_assoc ok r (all test (drop (i + 1) bytes)) ∙ (ap (λ v. ok && (v && all test (drop (i + 1) bytes))) e ∙ (ap (λ v. ok && v) (sym s) ∙ left))
-
-  pub all_end : length bytes ≤ i → (ok && all test (drop i bytes)) ≡ all test bytes → ok ≡ all test bytes
-  all_end behind left = sym (and_true ok) ∙ (ap (λ v. ok && v) (sym (at_drop_all (all test) bytes i behind)) ∙ left)
 
 -- where all pass none fails
 pub all_none : (test : ℕ → Bool) (i : ℕ) (bytes : List ℕ) → all test bytes ≡ true → first_failing_from test i bytes ≡ None

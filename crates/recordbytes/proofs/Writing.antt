@@ -2,7 +2,7 @@
 use Rattle.std.proofs.Common.{◌≡◌, ℕ, zero, suc, ◌+◌, ◌-◌, ◌*◌, ◌/◌, ◌%◌, ◌^◌, ◌<◌, ◌≤◌, true, leb, List, [], ◌∷◌, ◌++◌, length, drop, set, sym, refl, ap, ◌∙◌, add-zero, mul-le-mul_right, mul_assoc, zero-add, arith}
 use native.Mathlib.Nat.{pow-succ'}
 use Rattle.std.proofs.lemmas.Bool.{and_parts, and_from, leb-true, le-leb}
-use Rattle.std.proofs.lemmas.List.{length_push, append-nil, append_assoc, drop-set, drop_all, length-set}
+use Rattle.std.proofs.lemmas.List.{length_push, append-nil, append_assoc, drop-set, length-set}
 use Rattle.recordbytes.specs.Classes.{is_digit}
 use Rattle.recordbytes.specs.Walks.{all}
 use Rattle.recordbytes.proofs.Each.{every_push}
@@ -89,9 +89,6 @@ digits_write_numbers =
 -- writing from the right: i digits are left to write
 abbrev pub Unwritten : List ℕ → ℕ → ℕ → ℕ → Type 0
 Unwritten out i rest n = digits i rest ++ drop i out ≡ digits (length out) n
-
-pub write_start : (out : List ℕ) (n : ℕ) → Unwritten out (length out) n n
-write_start out n = ap (λ ys. digits (length out) n ++ ys) (drop_all (length out) out (omega arith)) ∙ append-nil (digits (length out) n)
 
 pub write_more : (out : List ℕ) (i rest n : ℕ) → 0 < i → i ≤ length out → Unwritten out i rest n → Unwritten (set out (i - 1) (rest % 10 + 48)) (i - 1) (rest / 10) n
 write_more out i rest n p l e =
