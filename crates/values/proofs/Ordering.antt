@@ -7,6 +7,7 @@ use Rattle.recordbytes.specs.Classes.{is_digit}
 use Rattle.recordbytes.specs.Numbers.{value, digits}
 use Rattle.recordbytes.specs.Spans.{span}
 use Rattle.recordbytes.specs.Walks.{all}
+use Rattle.recordbytes.proofs.Each.{every_take, every_drop}
 use Rattle.recordbytes.proofs.Writing.{digits_write_numbers}
 use Rattle.values.specs.declared.calendar.Date.{Date}
 use Rattle.values.specs.Days.{date_of, is_date, is_day, is_before, DaysAreOrdered}
@@ -19,17 +20,6 @@ before_onward d e f p q = grind (arith, nat_tests)
 
 same_date : (d e : Date) → is_before d e ≡ false → is_before e d ≡ false → (d.year ≡ e.year) × (d.month ≡ e.month) × (d.day ≡ e.day)
 same_date d e p q = (grind (arith, nat_tests), grind (arith, nat_tests), grind (arith, nat_tests))
-
--- what every byte passes, every byte of a part passes
-all_take : (test : ℕ → Bool) (n : ℕ) (bytes : List ℕ) → all test bytes ≡ true → all test (take n bytes) ≡ true
-all_take test zero bytes t = refl
-all_take test (suc n) [] t = refl
-all_take test (suc n) (x ∷ xs) t = let h = and_parts (test x) (all test xs) t in and_from (test x) (all test (take n xs)) h.0 (all_take test n xs h.1)
-
-all_drop : (test : ℕ → Bool) (n : ℕ) (bytes : List ℕ) → all test bytes ≡ true → all test (drop n bytes) ≡ true
-all_drop test zero bytes t = t
-all_drop test (suc n) [] t = refl
-all_drop test (suc n) (x ∷ xs) t = all_drop test n xs (and_parts (test x) (all test xs) t).1
 
 -- six bytes are three parts of two
 three_parts : (bytes : List ℕ) → length bytes ≡ 6 → bytes ≡ span bytes 1 2 ++ (span bytes 3 4 ++ span bytes 5 6)
@@ -46,7 +36,7 @@ module _ (a b : List ℕ) (wide : length a ≡ length b) (all_a : all is_digit a
       let m = first - 1 in
       let l : length (span a first last) ≡ length (span b first last) = omega (arith, length-take k (drop m a), length-take k (drop m b), length-drop m a, length-drop m b) in
       let written : (bytes : List ℕ) → all is_digit bytes ≡ true → digits (length (span bytes first last)) (value (span bytes first last)) ≡ span bytes first last =
-      λ bytes t. digits_write_numbers.written_back (span bytes first last) (all_take is_digit k (drop m bytes) (all_drop is_digit m bytes t)) in
+      λ bytes t. digits_write_numbers.written_back (span bytes first last) (every_take is_digit k (drop m bytes) (every_drop is_digit m bytes t)) in
       sym (written a all_a) ∙ (ap (λ n. digits n (value (span a first last))) l ∙ (ap (digits (length (span b first last))) e ∙ written b all_b))
 
 -- a day is six digits

@@ -1,13 +1,11 @@
 // Which six bytes are a day, and which of two days is the earlier.
 ghost use Rattle.std.specs.Prelude.{◌≡◌, ◌+◌, ◌^◌, ◌<◌, ◌≤◌};
-ghost use Rattle.recordbytes.specs.Numbers.{value as value_of};
-ghost use Rattle.recordbytes.specs.Spans.{span as span_of};
 ghost use Rattle.values.specs.Days.{full_year, date_of, is_leap, days_of_month, is_date, is_day, is_earlier};
 
-use recordbytes::{all_digits, number, span};
+use recordbytes::{Digit, all_inside, number_at};
 
 // A year, a month and a day of the month, whether there is such a day or not.
-#[derive(Clone, Copy)]
+#[derive(Clone, Copy, PartialEq, Eq, PartialOrd, Ord)]
 struct Date {
     year: u64,
     month: u64,
@@ -22,23 +20,14 @@ fn full_year(digits: u64) -> u64
     2000 + digits
 }
 
-// The number that the digits at two neighbouring positions write.
-fn two_digits(bytes: &[u8], first: usize, last: usize) -> u64
-    requires { last ≤ first + 1 }
-    ensures value { result ≡ value_of (span_of bytes.now first last) }
-    ensures bound { result < 2 ^ 55 }
-{
-    number(span(bytes, first, last))
-}
-
 // What six bytes DDMMYY write.
 fn date_of(bytes: &[u8]) -> Date
     ensures { result ≡ date_of bytes.now }
 {
     Date {
-        year: full_year(two_digits(bytes, 5, 6)),
-        month: two_digits(bytes, 3, 4),
-        day: two_digits(bytes, 1, 2),
+        year: full_year(number_at(bytes, 5, 6)),
+        month: number_at(bytes, 3, 4),
+        day: number_at(bytes, 1, 2),
     }
 }
 
@@ -74,15 +63,12 @@ fn is_date(date: Date) -> bool
 pub fn is_day(bytes: &[u8]) -> bool
     ensures { result ≡ is_day bytes.now }
 {
-    bytes.len() == 6 && all_digits(bytes) && is_date(date_of(bytes))
+    bytes.len() == 6 && all_inside::<Digit>(bytes) && is_date(date_of(bytes))
 }
 
 // Whether the date that the first six bytes write is before that of the other six.
 pub fn is_earlier(one: &[u8], other: &[u8]) -> bool
     ensures { result ≡ is_earlier one.now other.now }
 {
-    let d = date_of(one);
-    let e = date_of(other);
-    d.year < e.year
-        || (d.year == e.year && (d.month < e.month || (d.month == e.month && d.day < e.day)))
+    date_of(one) < date_of(other)
 }

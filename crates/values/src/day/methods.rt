@@ -7,7 +7,6 @@ ghost use Rattle.values.specs.Held.{day_bytes};
 
 use super::Day;
 use crate::calendar::{is_day, is_earlier};
-use recordbytes::same_bytes;
 
 impl Day {
     // The day that the bytes write; none where they are no day of the calendar.
@@ -37,10 +36,10 @@ impl Day {
         is_earlier(&self.bytes, &other.bytes)
     }
 
-    // Whether this is the same day as the other.
+    // Whether this is the same day as the other: == with a clause that says by which bytes.
     pub fn is_same(&self, other: &Day) -> bool
         ensures { result ≡ bytes_eq (day_bytes self.now) (day_bytes other.now) }
     {
-        same_bytes(&self.bytes, &other.bytes)
+        self == other
     }
 }

@@ -6,7 +6,7 @@ ghost use Rattle.values.specs.Money.{money_made, money_read, sign_of, written};
 
 use super::Money;
 use crate::signs::{CREDIT, DEBIT, is_sign, signed};
-use recordbytes::{MOST_DIGITS, all_digits, write_digits};
+use recordbytes::{Digit, MOST_DIGITS, all_inside, write_digits};
 use std::ops::Neg;
 
 // The most thousandths that fifteen digits write.
@@ -27,7 +27,7 @@ impl Money {
     pub fn read(sign: u8, digits: &[u8]) -> Option<Money>
         ensures { option_map in_thousandths result ≡ money_read sign digits.now }
     {
-        if !is_sign(sign) || digits.len() != MOST_DIGITS || !all_digits(digits) {
+        if !is_sign(sign) || digits.len() != MOST_DIGITS || !all_inside::<Digit>(digits) {
             return None;
         }
         Some(Money {
