@@ -8,7 +8,8 @@
 --   Flag         0 or 1
 --   Is           exactly these bytes
 --   OneOf        one byte out of these
-use Rattle.std.specs.Prelude.{ℕ, Bool, false, ◌&&◌, ◌||◌, List, [], ◌∷◌, length, codes, ◌==◌, slice_index}
+use Rattle.std.specs.Prelude.{ℕ, Bool, ◌&&◌, ◌||◌, List, length, codes, ◌==◌, slice_index}
+use Rattle.std.specs.List.{list_any}
 use Rattle.std.specs.Str.{bytes_eq}
 use Rattle.recordbytes.specs.Classes.{is_digit, is_space, is_plain}
 use Rattle.recordbytes.specs.Walks.{all}
@@ -27,8 +28,7 @@ pub data Form : Type 0 where
 
 -- a byte stands in a list of bytes
 abbrev pub among : List ℕ → ℕ → Bool
-among [] byte = false
-among (x ∷ xs) byte = x == byte || among xs byte
+among choices byte = list_any (λ choice. choice == byte) choices
 
 -- one byte, out of a list of bytes
 abbrev pub is_one_of : List ℕ → List ℕ → Bool

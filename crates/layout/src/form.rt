@@ -3,10 +3,10 @@ ghost use Rattle.std.specs.Prelude.{◌≡◌};
 ghost use Rattle.layout.specs.Forms.{among, is_one_of, holds as holds_of};
 ghost use Rattle.layout.specs.Tables.{form_of};
 
-use recordbytes::{all_digits, all_plain, all_spaces, same_bytes};
+use recordbytes::{Digit, Plain, Space, all_inside};
 use values::is_day;
 
-#[derive(Clone, Copy)]
+#[derive(Clone, Copy, PartialEq, Eq, Debug)]
 pub enum Form {
     Digits,
     Text,
@@ -23,12 +23,7 @@ pub enum Form {
 fn among(choices: &[u8], byte: u8) -> bool
     ensures { result ≡ among choices.now byte }
 {
-    for choice in choices {
-        if *choice == byte {
-            return true;
-        }
-    }
-    false
+    choices.contains(&byte)
 }
 
 // Whether the bytes are one byte, out of a list of bytes.
@@ -43,14 +38,14 @@ pub fn holds(form: Form, bytes: &[u8]) -> bool
     ensures { result ≡ holds_of (form_of form) bytes.now }
 {
     match form {
-        Form::Digits => all_digits(bytes),
-        Form::Text => all_plain(bytes),
-        Form::Spaces => all_spaces(bytes),
+        Form::Digits => all_inside::<Digit>(bytes),
+        Form::Text => all_inside::<Plain>(bytes),
+        Form::Spaces => all_inside::<Space>(bytes),
         Form::Day => is_day(bytes),
-        Form::DayOrZeros => is_day(bytes) || same_bytes(bytes, b"000000"),
+        Form::DayOrZeros => is_day(bytes) || bytes == b"000000".as_slice(),
         Form::Sign => is_one_of(bytes, b"01"),
         Form::Flag => is_one_of(bytes, b"01"),
-        Form::Is(text) => same_bytes(bytes, text),
+        Form::Is(text) => bytes == text,
         Form::OneOf(choices) => is_one_of(bytes, choices),
     }
 }

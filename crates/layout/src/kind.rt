@@ -2,9 +2,10 @@
 ghost use Rattle.std.specs.Prelude.{◌≡◌};
 ghost use Rattle.layout.specs.Kinds.{by_article, kind_of};
 
-use recordbytes::RECORD_LENGTH;
+use recordbytes::RecordBytes;
+use std::fmt;
 
-#[derive(Clone, Copy)]
+#[derive(Clone, Copy, PartialEq, Eq, Debug)]
 pub enum Kind {
     // 0
     Header,
@@ -30,6 +31,24 @@ pub enum Kind {
     Trailer,
 }
 
+impl fmt::Display for Kind {
+    fn fmt<W: fmt::Write>(&self, f: &mut fmt::Formatter<W>) -> fmt::Result {
+        f.write_str(match self {
+            Kind::Header => "header (0)",
+            Kind::OldBalance => "old balance (1)",
+            Kind::Movement => "movement (2.1)",
+            Kind::MovementSecond => "movement, second part (2.2)",
+            Kind::Counterparty => "counterparty (2.3)",
+            Kind::Information => "information (3.1)",
+            Kind::InformationSecond => "information, second part (3.2)",
+            Kind::InformationThird => "information, third part (3.3)",
+            Kind::NewBalance => "new balance (8)",
+            Kind::FreeCommunication => "free communication (4)",
+            Kind::Trailer => "trailer (9)",
+        })
+    }
+}
+
 // One of three kinds, by the article code.
 fn by_article(code: u8, one: Kind, two: Kind, three: Kind) -> Option<Kind>
     ensures { result ≡ by_article code one two three }
@@ -43,7 +62,7 @@ fn by_article(code: u8, one: Kind, two: Kind, three: Kind) -> Option<Kind>
 }
 
 // The kind of a record, told from its first two bytes, or none of the eleven.
-pub fn kind_of(bytes: &[u8; RECORD_LENGTH]) -> Option<Kind>
+pub fn kind_of(bytes: &RecordBytes) -> Option<Kind>
     ensures { result ≡ kind_of bytes.now }
 {
     match bytes[0] {

@@ -6,7 +6,7 @@ ghost use Rattle.layout.specs.Tables.{field_of};
 use crate::form::holds;
 use crate::kind::Kind;
 use crate::tables::{Field, table};
-use recordbytes::{RECORD_LENGTH, span};
+use recordbytes::{RecordBytes, span};
 
 // Whether a field of the bytes is of its form.
 fn is_formed(field: &Field, bytes: &[u8]) -> bool
@@ -29,7 +29,7 @@ pub fn first_misformed_of(fields: &[Field], bytes: &[u8]) -> Option<usize>
 }
 
 // The start of the leftmost field that is not of its form, in a record of a kind.
-pub fn first_misformed(kind: Kind, bytes: &[u8; RECORD_LENGTH]) -> Option<usize>
+pub fn first_misformed(kind: Kind, bytes: &RecordBytes) -> Option<usize>
     ensures { result ≡ first_misformed kind bytes.now }
 {
     first_misformed_of(table(kind), bytes)

@@ -7,7 +7,7 @@ use crate::form::Form;
 use crate::kind::Kind;
 
 // A field: its first and its last position, counted from 1, and its form.
-#[derive(Clone, Copy)]
+#[derive(Clone, Copy, PartialEq, Eq, Debug)]
 pub struct Field(pub usize, pub usize, pub Form);
 
 static HEADER: [Field; 14] = [
