@@ -2,7 +2,7 @@
 // with fixed bytes and those with spaces. Positions are counted from 1.
 
 // 0: the header of a statement.
-#[derive(Clone, Copy)]
+#[derive(Clone, Copy, PartialEq, Eq, Debug)]
 pub struct Header<'a> {
     // 6-11: the day on which the file was made
     pub creation_day: &'a [u8],
@@ -19,7 +19,7 @@ pub struct Header<'a> {
 }
 
 // 1: the old balance.
-#[derive(Clone, Copy)]
+#[derive(Clone, Copy, PartialEq, Eq, Debug)]
 pub struct OldBalance<'a> {
     // 2: how the account is numbered, 0 to 3
     pub structure: &'a [u8],
@@ -40,7 +40,7 @@ pub struct OldBalance<'a> {
 }
 
 // 2.1: a movement.
-#[derive(Clone, Copy)]
+#[derive(Clone, Copy, PartialEq, Eq, Debug)]
 pub struct Movement<'a> {
     // 3-6: the sequence number
     pub sequence: &'a [u8],
@@ -73,7 +73,7 @@ pub struct Movement<'a> {
 }
 
 // 2.2: the second part of a movement.
-#[derive(Clone, Copy)]
+#[derive(Clone, Copy, PartialEq, Eq, Debug)]
 pub struct MovementSecond<'a> {
     // 3-6
     pub sequence: &'a [u8],
@@ -90,7 +90,7 @@ pub struct MovementSecond<'a> {
 }
 
 // 2.3: the counterparty of a movement.
-#[derive(Clone, Copy)]
+#[derive(Clone, Copy, PartialEq, Eq, Debug)]
 pub struct Counterparty<'a> {
     // 3-6
     pub sequence: &'a [u8],
@@ -107,7 +107,7 @@ pub struct Counterparty<'a> {
 }
 
 // 3.1: information on a movement.
-#[derive(Clone, Copy)]
+#[derive(Clone, Copy, PartialEq, Eq, Debug)]
 pub struct Information<'a> {
     // 3-6
     pub sequence: &'a [u8],
@@ -128,7 +128,7 @@ pub struct Information<'a> {
 }
 
 // 3.2: the second part of an information record.
-#[derive(Clone, Copy)]
+#[derive(Clone, Copy, PartialEq, Eq, Debug)]
 pub struct InformationSecond<'a> {
     // 3-6
     pub sequence: &'a [u8],
@@ -143,7 +143,7 @@ pub struct InformationSecond<'a> {
 }
 
 // 3.3: the third part of an information record.
-#[derive(Clone, Copy)]
+#[derive(Clone, Copy, PartialEq, Eq, Debug)]
 pub struct InformationThird<'a> {
     // 3-6
     pub sequence: &'a [u8],
@@ -156,7 +156,7 @@ pub struct InformationThird<'a> {
 }
 
 // 8: the new balance.
-#[derive(Clone, Copy)]
+#[derive(Clone, Copy, PartialEq, Eq, Debug)]
 pub struct NewBalance<'a> {
     // 2-4: the number of the statement on paper
     pub paper_number: &'a [u8],
@@ -173,7 +173,7 @@ pub struct NewBalance<'a> {
 }
 
 // 4: a free communication.
-#[derive(Clone, Copy)]
+#[derive(Clone, Copy, PartialEq, Eq, Debug)]
 pub struct FreeCommunication<'a> {
     // 3-6
     pub sequence: &'a [u8],
@@ -186,7 +186,7 @@ pub struct FreeCommunication<'a> {
 }
 
 // 9: the trailer of a statement.
-#[derive(Clone, Copy)]
+#[derive(Clone, Copy, PartialEq, Eq, Debug)]
 pub struct Trailer<'a> {
     // 17-22: the number of records 1, 2, 3 and 8
     pub count: &'a [u8],
@@ -198,7 +198,7 @@ pub struct Trailer<'a> {
     pub follows: &'a [u8],
 }
 
-#[derive(Clone, Copy)]
+#[derive(Clone, Copy, PartialEq, Eq, Debug)]
 pub enum Record<'a> {
     Header(Header<'a>),
     OldBalance(OldBalance<'a>),

@@ -7,10 +7,10 @@ use crate::cases::{
     Movement, MovementSecond, NewBalance, OldBalance, Record, Trailer,
 };
 use layout::Kind;
-use recordbytes::RECORD_LENGTH;
+use recordbytes::RecordBytes;
 
 // The fields of a record of a kind.
-pub fn cut(kind: Kind, bytes: &[u8; RECORD_LENGTH]) -> Record<'_>
+pub fn cut(kind: Kind, bytes: &RecordBytes) -> Record<'_>
     ensures kind { kind_of_record result ≡ kind }
     ensures fields { fields result ≡ free_fields kind bytes.now }
 {

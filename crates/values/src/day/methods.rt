@@ -29,7 +29,8 @@ impl Day {
         self.bytes
     }
 
-    // Whether this day is before the other.
+    // Whether this day is before the other. There is no Ord: it would have to agree with ==, and that two days
+    // of one date are the same bytes is proved by tactics, which the laws of a trait may not call.
     pub fn is_before(&self, other: &Day) -> bool
         ensures { result ≡ is_earlier (day_bytes self.now) (day_bytes other.now) }
     {
