@@ -1,86 +1,79 @@
 // The words of the command line.
 use cashbook::MOST_ROWS;
+use std::fmt;
+use std::str::FromStr;
 
 // What a book is kept on.
-#[derive(Clone, Copy)]
+#[derive(Clone, Copy, PartialEq, Eq, Debug)]
 pub enum BookKind {
     Image,
     Table,
 }
 
-// The room of a book where no word says it, in rows.
-const USUAL_CAPACITY: u32 = 100;
+impl fmt::Display for BookKind {
+    fn fmt<W: fmt::Write>(&self, f: &mut fmt::Formatter<W>) -> fmt::Result {
+        f.write_str(match self {
+            BookKind::Image => "a book on an image",
+            BookKind::Table => "a book on a table",
+        })
+    }
+}
+
+// Room for so many rows, up to the most that a book has.
+#[derive(Clone, Copy, PartialEq, Eq, Debug)]
+pub struct Capacity(pub u32);
+
+// A word that is no such number.
+#[derive(Clone, Copy, PartialEq, Eq, Debug)]
+pub struct NoCapacity;
+
+impl FromStr for Capacity {
+    type Err = NoCapacity;
+
+    fn from_str(text: &str) -> Result<Capacity, NoCapacity> {
+        match text.parse::<u32>() {
+            Ok(rows) if rows <= MOST_ROWS => Ok(Capacity(rows)),
+            _ => Err(NoCapacity),
+        }
+    }
+}
 
 // What the words so far say of the scripts behind them.
-#[derive(Clone, Copy)]
+#[derive(Clone, Copy, PartialEq, Eq, Debug)]
 pub struct Settings {
     pub book: BookKind,
-    pub capacity: u32,
-    // the next word is the capacity
-    capacity_next: bool,
+    pub capacity: Capacity,
 }
+
+// The settings where no word says others.
+pub const USUAL: Settings = Settings {
+    book: BookKind::Image,
+    capacity: Capacity(100),
+};
 
 // What a word is.
-#[derive(Clone, Copy)]
+#[derive(Clone, Copy, PartialEq, Eq, Debug)]
 pub enum Word {
-    // an option or its number
-    Setting,
+    Book(BookKind),
+    // the next word is the capacity
+    Capacity,
     Script,
-    Wrong(Mistake),
 }
 
-// What is wrong with a word.
-#[derive(Clone, Copy)]
-pub enum Mistake {
-    UnknownOption,
-    NoCapacity,
-}
+// A word that looks like an option and is none.
+#[derive(Clone, Copy, PartialEq, Eq, Debug)]
+pub struct UnknownOption;
 
-impl Settings {
-    pub fn new() -> Settings {
-        Settings {
-            book: BookKind::Image,
-            capacity: USUAL_CAPACITY,
-            capacity_next: false,
-        }
-    }
+impl FromStr for Word {
+    type Err = UnknownOption;
 
-    // Whether the last word was --capacity, without its number.
-    pub fn lacks_capacity(&self) -> bool {
-        self.capacity_next
-    }
-
-    // Says what the next word is, and takes it where it is a setting.
-    pub fn take(&mut self, text: &str) -> Word {
-        if self.capacity_next {
-            return self.take_capacity(text);
-        }
+    fn from_str(text: &str) -> Result<Word, UnknownOption> {
         match text {
-            "--image" => self.book = BookKind::Image,
-            "--table" => self.book = BookKind::Table,
-            "--capacity" => self.capacity_next = true,
-            _ => return script_or_unknown(text),
+            "--image" => Ok(Word::Book(BookKind::Image)),
+            "--table" => Ok(Word::Book(BookKind::Table)),
+            "--capacity" => Ok(Word::Capacity),
+            _ if text.starts_with("--") => Err(UnknownOption),
+            _ => Ok(Word::Script),
         }
-        Word::Setting
-    }
-
-    // A capacity is a number up to the most rows that a book has room for.
-    fn take_capacity(&mut self, text: &str) -> Word {
-        match text.parse::<u32>() {
-            Ok(capacity) if capacity <= MOST_ROWS => {
-                self.capacity = capacity;
-                self.capacity_next = false;
-                Word::Setting
-            }
-            _ => Word::Wrong(Mistake::NoCapacity),
-        }
-    }
-}
-
-fn script_or_unknown(text: &str) -> Word {
-    if text.starts_with("--") {
-        Word::Wrong(Mistake::UnknownOption)
-    } else {
-        Word::Script
     }
 }

@@ -1,7 +1,7 @@
 // The book that the calls of a script are run on.
+use crate::answers::RowCount;
 use crate::arguments::{BookKind, Settings};
 use crate::calls::run_calls;
-use crate::names::{book_name, rows_name};
 use imagebook::ImageBook;
 use images::HEADER_LENGTH;
 use rowbytes::ROW_LENGTH;
@@ -16,12 +16,8 @@ pub fn report_script(
     script: &str,
     settings: Settings,
 ) -> io::Result<()> {
-    let capacity = settings.capacity;
-    println!(rt;
-        "{path}: {}, {capacity} {}",
-        book_name(settings.book),
-        rows_name(capacity)
-    )?;
+    let capacity = settings.capacity.0;
+    println!(rt; "{path}: {}, {}", settings.book, RowCount(capacity))?;
     match settings.book {
         BookKind::Image => run_on_image(rt, script, capacity),
         BookKind::Table => run_on_table(rt, script, capacity),
@@ -31,13 +27,15 @@ pub fn report_script(
 fn run_on_image(rt: &HostRuntime, script: &str, capacity: u32) -> io::Result<()> {
     let length = HEADER_LENGTH + ROW_LENGTH * capacity as usize;
     let mut bytes = vec![in rt.alloc(); 0u8; length]?;
-    let mut book = ImageBook::new(bytes.as_mut_slice());
-    run_calls(rt, &mut book, script)
+    run_calls(rt, &mut ImageBook::new(bytes.as_mut_slice()), script)
 }
 
 fn run_on_table(rt: &HostRuntime, script: &str, capacity: u32) -> io::Result<()> {
     let mut rows = vec![in rt.alloc(); BLANK; capacity as usize]?;
     let mut places = vec![in rt.alloc(); 0u32; capacity as usize]?;
-    let mut book = TableBook::new(rows.as_mut_slice(), places.as_mut_slice());
-    run_calls(rt, &mut book, script)
+    run_calls(
+        rt,
+        &mut TableBook::new(rows.as_mut_slice(), places.as_mut_slice()),
+        script,
+    )
 }

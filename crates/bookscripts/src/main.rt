@@ -1,15 +1,15 @@
 // Runs the calls of scripts on cash books: `bookscripts [--image | --table] [--capacity N] SCRIPT...`.
 #![tactic(auto)]
 
+mod answers;
 mod arguments;
 mod books;
 mod calls;
-mod names;
 mod script;
 mod show;
 
 use anyhow::anyhow;
-use arguments::{Mistake, Settings, Word};
+use arguments::{Capacity, NoCapacity, Settings, USUAL, UnknownOption, Word};
 use books::report_script;
 use cashbook::MOST_ROWS;
 use std::process::ExitCode;
@@ -28,52 +28,83 @@ fn main(rt: HostRuntime) -> anyhow::Result<ExitCode> {
 }
 
 fn run(rt: &HostRuntime) -> anyhow::Result<()> {
-    let mut settings = Settings::new();
-    let mut scripts = 0usize;
-    let mut unread = 0usize;
-    for text in env::args(rt)?.skip(1) {
-        match settings.take(text.as_str()) {
-            Word::Setting => {}
-            Word::Script => {
-                scripts = scripts.saturating_add(1);
-                if !run_script(rt, text.as_str(), settings)? {
-                    unread = unread.saturating_add(1);
-                }
-            }
-            Word::Wrong(mistake) => {
-                tell_mistake(rt, text.as_str(), mistake)?;
-                return Err(anyhow!(USAGE));
-            }
+    let mut words = env::args(rt)?.skip(1);
+    let mut settings = USUAL;
+    let mut scripts = Scripts { all: 0, unread: 0 };
+    while let Some(text) = words.next() {
+        match word_of(rt, text.as_str())? {
+            Word::Book(book) => settings.book = book,
+            Word::Capacity => settings.capacity = capacity_of(rt, words.next())?,
+            Word::Script => scripts.run(rt, text.as_str(), settings)?,
         }
     }
-    if scripts == 0 || settings.lacks_capacity() {
+    scripts.end()
+}
+
+// What a word is; where it is none, that is told, and the run ends.
+fn word_of(rt: &HostRuntime, text: &str) -> anyhow::Result<Word> {
+    match text.parse::<Word>() {
+        Ok(word) => Ok(word),
+        Err(UnknownOption) => {
+            eprintln!(rt; "bookscripts: unknown option {text}")?;
+            Err(anyhow!(USAGE))
+        }
+    }
+}
+
+// The capacity that a word is; where it is none, that is told, and the run ends.
+fn capacity_of(rt: &HostRuntime, word: Option<String>) -> anyhow::Result<Capacity> {
+    let Some(text) = word else {
         return Err(anyhow!(USAGE));
-    }
-    if unread > 0 {
-        return Err(anyhow!("not every script could be read"));
-    }
-    Ok(())
-}
-
-fn tell_mistake(rt: &HostRuntime, text: &str, mistake: Mistake) -> io::Result<()> {
-    match mistake {
-        Mistake::UnknownOption => eprintln!(rt; "bookscripts: unknown option {text}"),
-        Mistake::NoCapacity => eprintln!(rt;
-            "bookscripts: the capacity is a number from 0 to {MOST_ROWS}, not {text}"
-        ),
-    }
-}
-
-// Runs the calls of a script; false where it could not be read.
-fn run_script(rt: &HostRuntime, path: &str, settings: Settings) -> anyhow::Result<bool> {
-    match fs::read_to_string(rt, path) {
-        Ok(script) => {
-            report_script(rt, path, script.as_str(), settings)?;
-            Ok(true)
+    };
+    match text.as_str().parse::<Capacity>() {
+        Ok(capacity) => Ok(capacity),
+        Err(NoCapacity) => {
+            eprintln!(rt;
+                "bookscripts: the capacity is a number from 0 to {MOST_ROWS}, not {text}"
+            )?;
+            Err(anyhow!(USAGE))
         }
+    }
+}
+
+// How many scripts were named, and how many of them could not be read.
+#[derive(Clone, Copy)]
+struct Scripts {
+    all: usize,
+    unread: usize,
+}
+
+impl Scripts {
+    // Reads a script and runs its calls.
+    fn run(&mut self, rt: &HostRuntime, path: &str, settings: Settings) -> anyhow::Result<()> {
+        self.all = self.all.saturating_add(1);
+        match read_script(rt, path)? {
+            Some(script) => report_script(rt, path, script.as_str(), settings)?,
+            None => self.unread = self.unread.saturating_add(1),
+        }
+        Ok(())
+    }
+
+    // What the run comes to.
+    fn end(&self) -> anyhow::Result<()> {
+        if self.all == 0 {
+            return Err(anyhow!(USAGE));
+        }
+        if self.unread > 0 {
+            return Err(anyhow!("not every script could be read"));
+        }
+        Ok(())
+    }
+}
+
+// The text of a script; where it cannot be read, that is told, and there is none.
+fn read_script(rt: &HostRuntime, path: &str) -> io::Result<Option<String>> {
+    match fs::read_to_string(rt, path) {
+        Ok(script) => Ok(Some(script)),
         Err(error) => {
             eprintln!(rt; "bookscripts: {path}: {error}")?;
-            Ok(false)
+            Ok(None)
         }
     }
 }

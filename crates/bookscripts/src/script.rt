@@ -15,61 +15,34 @@ pub enum Call<'a> {
     KeptRow(&'a str),
     LatestKept(&'a str),
     Latest(&'a str),
-    Unknown,
 }
 
-// The name of a call, and what is written behind the space that follows it.
-pub fn parts(line: &str) -> (&str, &str) {
-    match line.split_once(' ') {
-        Some(parts) => parts,
-        None => (line, ""),
-    }
-}
-
-pub fn call_of<'a>(name: &str, rest: &'a str) -> Call<'a> {
-    match name {
-        "add" => Call::Add(rest),
-        "row" => Call::KeptRow(rest),
-        "latest-kept" => Call::LatestKept(rest),
-        "latest" => Call::Latest(rest),
-        _ => bare_call(name, rest),
-    }
-}
-
-// A call that is its name alone.
-fn bare_call<'a>(name: &str, rest: &'a str) -> Call<'a> {
-    if !rest.is_empty() {
-        return Call::Unknown;
-    }
-    match name {
-        "open" => Call::Open,
-        "commit" => Call::Commit,
-        "cancel" => Call::Cancel,
-        "is-open" => Call::IsOpen,
-        "free" => Call::Free,
-        "kept" => Call::Kept,
-        _ => Call::Unknown,
+// The call of a name, with what is written behind the space that follows it.
+pub fn call_of<'a>(name: &str, rest: &'a str) -> Option<Call<'a>> {
+    match (name, rest) {
+        ("add", text) => Some(Call::Add(text)),
+        ("row", text) => Some(Call::KeptRow(text)),
+        ("latest-kept", text) => Some(Call::LatestKept(text)),
+        ("latest", text) => Some(Call::Latest(text)),
+        ("open", "") => Some(Call::Open),
+        ("commit", "") => Some(Call::Commit),
+        ("cancel", "") => Some(Call::Cancel),
+        ("is-open", "") => Some(Call::IsOpen),
+        ("free", "") => Some(Call::Free),
+        ("kept", "") => Some(Call::Kept),
+        _ => None,
     }
 }
 
 // The row that a text writes, where zeros may be missing at its end.
 pub fn row_of(text: &str) -> Option<Row> {
     let written = text.as_bytes();
-    if written.len() > ROW_LENGTH {
-        return None;
-    }
     let mut padded = [0; ROW_LENGTH];
-    for (to, from) in padded.iter_mut().zip(written) {
-        *to = *from;
-    }
+    padded.get_mut(..written.len())?.copy_from_slice(written);
     read_row(&padded)
 }
 
 // The account that a text is, where it has the length of one.
 pub fn account_of(text: &str) -> Option<&[u8; ACCOUNT_LENGTH]> {
-    let written = text.as_bytes();
-    if written.len() != ACCOUNT_LENGTH {
-        return None;
-    }
-    written.first_chunk()
+    text.as_bytes().as_array()
 }

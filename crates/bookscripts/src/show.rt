@@ -16,7 +16,8 @@ pub struct Text<'a>(pub &'a [u8]);
 #[derive(Clone, Copy)]
 struct DayText([u8; 6]);
 
-// An amount in thousandths, shown with its sign and three decimals.
+// An amount in thousandths, shown with its sign and three decimals. The flag stands beside the number,
+// since a debit of nothing is shown with its sign too.
 #[derive(Clone, Copy)]
 struct AmountText {
     is_debit: bool,

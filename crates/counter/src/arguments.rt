@@ -1,7 +1,8 @@
 // The words of the command line.
+use std::str::FromStr;
 
 // How a file is cut into slots.
-#[derive(Clone, Copy)]
+#[derive(Clone, Copy, PartialEq, Eq, Debug)]
 pub enum Cutting {
     // in lines where the file has a line feed, else packed
     Told,
@@ -10,22 +11,25 @@ pub enum Cutting {
 }
 
 // What a word behind the command is.
-#[derive(Clone, Copy)]
+#[derive(Clone, Copy, PartialEq, Eq, Debug)]
 pub enum Word {
     Option(Cutting),
-    UnknownOption,
     File,
 }
 
-pub fn word_of(text: &str) -> Word {
-    if text == "--packed" {
-        return Word::Option(Cutting::Packed);
+// A word that looks like an option and is none.
+#[derive(Clone, Copy, PartialEq, Eq, Debug)]
+pub struct UnknownOption;
+
+impl FromStr for Word {
+    type Err = UnknownOption;
+
+    fn from_str(text: &str) -> Result<Word, UnknownOption> {
+        match text {
+            "--packed" => Ok(Word::Option(Cutting::Packed)),
+            "--lines" => Ok(Word::Option(Cutting::Lines)),
+            _ if text.starts_with("--") => Err(UnknownOption),
+            _ => Ok(Word::File),
+        }
     }
-    if text == "--lines" {
-        return Word::Option(Cutting::Lines);
-    }
-    if text.starts_with("--") {
-        return Word::UnknownOption;
-    }
-    Word::File
 }

@@ -6,10 +6,10 @@ mod names;
 mod report;
 
 use anyhow::anyhow;
-use arguments::{Cutting, Word, word_of};
+use arguments::{Cutting, UnknownOption, Word};
 use report::report_file;
 use std::process::ExitCode;
-use std::{env, fs};
+use std::{env, fs, io};
 
 const USAGE: &str = "usage: counter check [--packed | --lines] FILE...";
 
@@ -25,51 +25,68 @@ fn main(rt: HostRuntime) -> anyhow::Result<ExitCode> {
 
 fn run(rt: &HostRuntime) -> anyhow::Result<()> {
     let mut words = env::args(rt)?.skip(1);
-    match words.next() {
-        Some(command) => {
-            if command.as_str() != "check" {
-                return Err(anyhow!(USAGE));
-            }
-        }
-        None => return Err(anyhow!(USAGE)),
-    }
-    let mut cutting = Cutting::Told;
-    let mut files = 0usize;
-    let mut unread = 0usize;
-    for text in words {
-        match word_of(text.as_str()) {
-            Word::Option(chosen) => cutting = chosen,
-            Word::UnknownOption => {
-                eprintln!(rt; "counter: unknown option {text}")?;
-                return Err(anyhow!(USAGE));
-            }
-            Word::File => {
-                files = files.saturating_add(1);
-                if !check_file(rt, text.as_str(), cutting)? {
-                    unread = unread.saturating_add(1);
-                }
-            }
-        }
-    }
-    if files == 0 {
+    if !words.next().is_some_and(|word| word.as_str() == "check") {
         return Err(anyhow!(USAGE));
     }
-    if unread > 0 {
-        return Err(anyhow!("not every file could be read"));
+    let mut cutting = Cutting::Told;
+    let mut files = Files { all: 0, unread: 0 };
+    for text in words {
+        match word_of(rt, text.as_str())? {
+            Word::Option(chosen) => cutting = chosen,
+            Word::File => files.check(rt, text.as_str(), cutting)?,
+        }
     }
-    Ok(())
+    files.end()
 }
 
-// Reports on a file; false where it could not be read.
-fn check_file(rt: &HostRuntime, path: &str, cutting: Cutting) -> anyhow::Result<bool> {
-    match fs::read(rt, path) {
-        Ok(file) => {
-            report_file(rt, path, file.as_slice(), cutting)?;
-            Ok(true)
+// What a word is; where it is none, that is told, and the run ends.
+fn word_of(rt: &HostRuntime, text: &str) -> anyhow::Result<Word> {
+    match text.parse::<Word>() {
+        Ok(word) => Ok(word),
+        Err(UnknownOption) => {
+            eprintln!(rt; "counter: unknown option {text}")?;
+            Err(anyhow!(USAGE))
         }
+    }
+}
+
+// How many files were named, and how many of them could not be read.
+#[derive(Clone, Copy)]
+struct Files {
+    all: usize,
+    unread: usize,
+}
+
+impl Files {
+    // Reads a file and reports on it.
+    fn check(&mut self, rt: &HostRuntime, path: &str, cutting: Cutting) -> anyhow::Result<()> {
+        self.all = self.all.saturating_add(1);
+        match read_file(rt, path)? {
+            Some(file) => report_file(rt, path, file.as_slice(), cutting)?,
+            None => self.unread = self.unread.saturating_add(1),
+        }
+        Ok(())
+    }
+
+    // What the run comes to.
+    fn end(&self) -> anyhow::Result<()> {
+        if self.all == 0 {
+            return Err(anyhow!(USAGE));
+        }
+        if self.unread > 0 {
+            return Err(anyhow!("not every file could be read"));
+        }
+        Ok(())
+    }
+}
+
+// The bytes of a file; where it cannot be read, that is told, and there are none.
+fn read_file(rt: &HostRuntime, path: &str) -> io::Result<Option<Vec<u8>>> {
+    match fs::read(rt, path) {
+        Ok(file) => Ok(Some(file)),
         Err(error) => {
             eprintln!(rt; "counter: {path}: {error}")?;
-            Ok(false)
+            Ok(None)
         }
     }
 }
