@@ -1,5 +1,6 @@
 -- The kinds that may come at a place, one by one.
-use Rattle.std.proofs.Common.{◌≡◌, ℕ, Bool, true, false, ◌||◌, eqb, ◌⊎◌, List, [], ◌∷◌, get_or, sym, refl, ap, ◌∙◌, inl, inr}
+use Rattle.std.proofs.Math.Bool.{or-false}
+use Rattle.std.proofs.Common.{◌≡◌, ℕ, true, eqb, ◌⊎◌, List, [], ◌∷◌, get_or, sym, refl, ap, ◌∙◌, inl, inr}
 use Rattle.std.proofs.lemmas.Bool.{eqb-true, or_cases, false≢true}
 use Rattle.layout.specs.declared.kind.Kind.{Kind}
 use Rattle.layout.specs.declared.kind.Kind.TheVariants as K
@@ -29,13 +30,9 @@ Among k [] = ⊥
 Among k (j ∷ []) = k ≡ j
 Among k (j ∷ i ∷ js) = (k ≡ j) ⊎ Among k (i ∷ js)
 
-or_false : (x : Bool) → (x || false) ≡ true → x ≡ true
-or_false true h = refl
-or_false false h = h
-
 pub among : (k : Kind) (js : List Kind) → is_among k js ≡ true → Among k js
 among k [] h = false≢true h
-among k (j ∷ []) h = same_kind j k (or_false (eqb (rank j) (rank k)) h)
+among k (j ∷ []) h = same_kind j k (sym (or-false (eqb (rank j) (rank k))) ∙ h)
 among k (j ∷ i ∷ js) h = by (among k (i ∷ js)) (or_cases (eqb (rank j) (rank k)) (is_among k (i ∷ js)) h)
   where
     by : (is_among k (i ∷ js) ≡ true → Among k (i ∷ js)) → (eqb (rank j) (rank k) ≡ true) ⊎ (is_among k (i ∷ js) ≡ true) → (k ≡ j) ⊎ Among k (i ∷ js)

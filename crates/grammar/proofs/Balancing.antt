@@ -1,7 +1,7 @@
 -- A balance is brought back to fifteen digits by one more main movement.
 --   Balance     thousandths that are an old credit or debit of fifteen digits, plus credits, less debits
 --   Restored    what brings a balance back: nothing, a debit or a credit of so much
-use Rattle.std.proofs.Common.{◌≡◌, ℕ, zero, suc, ◌+◌, ◌-◌, ◌≤◌, Bool, true, false, cond, ◌⊎◌, ℤ, pos, negsuc, ◌+ℤ◌, ◌-ℤ◌, neg_ℤ, nat_abs, sym, refl, ap, ◌∙◌, subst, inl, inr, arith}
+use Rattle.std.proofs.Common.{◌≡◌, ℕ, add-zero, zero, suc, ◌+◌, ◌-◌, ◌≤◌, Bool, true, false, cond, ◌⊎◌, ℤ, pos, negsuc, ◌+ℤ◌, ◌-ℤ◌, neg_ℤ, nat_abs, sym, refl, ap, ◌∙◌, subst, inl, inr, arith}
 use mathlib.Core.Path.{subst⁻¹}
 use native.Mathlib.Decide.{dec_le}
 use lib.IntN.{pos-+ℤ-pos, +ℤ_assoc, +ℤ_comm, +ℤ-neg_ℤ_cancel, -ℤ-+ℤ_cancel, neg_ℤ-+ℤ, +ℤ_idl, +ℤ_idr}
@@ -30,9 +30,6 @@ either (negsuc n) = inr refl
 fifteen : (z : ℤ) (n : ℕ) → n ≤ largest_sum → Either z n → Fifteen z
 fifteen z n h e = subst⁻¹ (λ k. k ≤ largest_sum) (size_of z n e) h
 
-zero_right : (n : ℕ) → n ≡ n + 0
-zero_right n = omega arith
-
 -- BALANCES
 
 pub record Balance (z : ℤ) (credits debits : ℕ) : Type 0 where
@@ -52,7 +49,7 @@ balance_opened z h = by (either z)
           debit = 0;
           credit_small = h;
           debit_small = omega arith;
-          is = e ∙ (ap pos (zero_right (nat_abs z)) ∙ sym (+ℤ_idr (pos (nat_abs z + 0))));
+          is = e ∙ (ap pos (sym (add-zero (nat_abs z))) ∙ sym (+ℤ_idr (pos (nat_abs z + 0))));
         }
     by (inr e) =
         record {
@@ -60,7 +57,7 @@ balance_opened z h = by (either z)
           debit = nat_abs z;
           credit_small = omega arith;
           debit_small = h;
-          is = e ∙ (ap (λ k. neg_ℤ (pos k)) (zero_right (nat_abs z)) ∙ sym (+ℤ_idl (neg_ℤ (pos (nat_abs z + 0)))));
+          is = e ∙ (ap (λ k. neg_ℤ (pos k)) (sym (add-zero (nat_abs z))) ∙ sym (+ℤ_idl (neg_ℤ (pos (nat_abs z + 0)))));
         }
 
 swap : (x y z : ℤ) → (x +ℤ y) +ℤ z ≡ (x +ℤ z) +ℤ y
@@ -95,8 +92,8 @@ module _ (z : ℤ) (c d n : ℕ) (b : Balance z c d) where
 
 -- behind a main movement
 pub balance_booked : (is_debit : Bool) (n : ℕ) (z : ℤ) (c d : ℕ) → Balance z c d → Balance (z +ℤ cond is_debit (neg_ℤ (pos n)) (pos n)) (c + cond is_debit 0 n) (d + cond is_debit n 0)
-balance_booked true n z c d b = subst (λ k. Balance (z +ℤ neg_ℤ (pos n)) k (d + n)) (zero_right c) (balance_debited z c d n b)
-balance_booked false n z c d b = subst (λ k. Balance (z +ℤ pos n) (c + n) k) (zero_right d) (balance_credited z c d n b)
+balance_booked true n z c d b = subst (λ k. Balance (z +ℤ neg_ℤ (pos n)) k (d + n)) (sym (add-zero c)) (balance_debited z c d n b)
+balance_booked false n z c d b = subst (λ k. Balance (z +ℤ pos n) (c + n) k) (sym (add-zero d)) (balance_credited z c d n b)
 
 -- BACK TO FIFTEEN DIGITS
 

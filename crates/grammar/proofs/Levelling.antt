@@ -67,7 +67,7 @@ descending_lower (h ∷ hs) l ls d = descending_lower hs l ls d.2
 positive : (l : ℕ) → eqb l 0 ≡ false → 1 ≤ l
 positive l e = let z : l ≡ 0 → ⊥ = eqb-false l 0 e in omega arith
 
-positive_test : (l : ℕ) → 1 ≤ l → eqb l 0 ≡ false
+pub positive_test : (l : ℕ) → 1 ≤ l → eqb l 0 ≡ false
 positive_test l h = ne_eqb l 0 (λ e. omega arith)
 
 behind_positive : (os : List ℕ) (l : ℕ) → 1 ≤ l → levels_behind os l ≡ cond (is_open l os) (closed_from l os) (l ∷ os)

@@ -1,8 +1,9 @@
 -- All open levels are closed by closing the lowest.
 use Rattle.std.proofs.Common.{◌≡◌, ℕ, ◌≤◌, Bool, true, false, cond, eqb, leb, List, [], ◌∷◌, refl, ◌∙◌, le_trans, le_refl, le_of_lt, arith}
 use Rattle.std.specs.List.{AllByRecursion}
-use Rattle.std.proofs.lemmas.Bool.{eq-eqb, ne_eqb, eqb-false, leb-true, leb-false, le-leb, or_left, or_right, cond-true, cond-false, cond_both}
+use Rattle.std.proofs.lemmas.Bool.{eq-eqb, eqb-false, leb-true, leb-false, le-leb, or_left, or_right, cond-true, cond-false, cond_both}
 use Rattle.grammar.specs.Places.{is_open, is_above, closed_from, level_fits, levels_behind}
+use Rattle.grammar.proofs.Levelling.{positive_test}
 
 -- a level that can be open
 abbrev pub IsLevel : ℕ → Type 0
@@ -45,14 +46,11 @@ all_closed : (l : ℕ) (os : List ℕ) → AllByRecursion (λ o. l ≤ o) os →
 all_closed l [] a = refl
 all_closed l (o ∷ os) a = cond-true (leb l o) (closed_from l os) (o ∷ os) (le-leb l o a.0) ∙ all_closed l os a.1
 
-not_zero : (l : ℕ) → 1 ≤ l → eqb l 0 ≡ false
-not_zero l h = ne_eqb l 0 (λ e. omega arith)
-
 module _ (os : List ℕ) (x : Lowest os) where
   pub lowest_closes : levels_behind os x.level ≡ []
   lowest_closes =
       let l = x.level in
-      cond-false (eqb l 0) os (cond (is_open l os) (closed_from l os) (l ∷ os)) (not_zero l x.is_level.0)
+      cond-false (eqb l 0) os (cond (is_open l os) (closed_from l os) (l ∷ os)) (positive_test l x.is_level.0)
       ∙ (cond-true (is_open l os) (closed_from l os) (l ∷ os) x.opened ∙ all_closed l os x.least)
 
   pub lowest_fits : level_fits os x.level ≡ true

@@ -1,7 +1,7 @@
 -- The machine over slots takes the formed records in them, up to the first slot that it does not take.
 --   run_on   behind records that are taken the machine runs on
 --   walked   what it has taken behind a run, or in front of a fault
-use Rattle.std.proofs.Common.{◌≡◌, ℕ, suc, ◌+◌, false, List, [], ◌∷◌, ◌++◌, length, Ok, Err, Result, sym, refl, ap, ◌∙◌, arith}
+use Rattle.std.proofs.Common.{◌≡◌, ℕ, add-zero, suc, ◌+◌, false, List, [], ◌∷◌, ◌++◌, length, Ok, Err, Result, sym, refl, ap, ◌∙◌, arith}
 use Rattle.std.specs.List.{AllByRecursion}
 use Rattle.source.specs.Slots.{Slot, whole, damaged, Sound}
 use Rattle.grammar.specs.declared.faults.StatementFault.{StatementFault}
@@ -18,11 +18,8 @@ use Rattle.grammar.proofs.Stepping.{Leads, leads, step_formed}
 one_more : (n m : ℕ) → n + 1 + m ≡ n + suc m
 one_more n m = omega arith
 
-none_more : (n : ℕ) → n ≡ n + 0
-none_more n = omega arith
-
 pub run_on : (p : Place) (rs : List Leaf) (q : Place) (n : ℕ) (ys : List Slot) → AllByRecursion Formed rs → Takes p rs q → run p n (slots rs ++ ys) ≡ run q (n + length rs) ys
-run_on p [] q n ys f t = ap (λ x. run x n ys) t ∙ ap (λ m. run q m ys) (none_more n)
+run_on p [] q n ys f t = ap (λ x. run x n ys) t ∙ ap (λ m. run q m ys) (sym (add-zero n))
 run_on p (r ∷ rs) q n ys f t =
     ap (onward n (λ x. run x (n + 1) (slots rs ++ ys))) (step_formed p r f.0 ∙ t.1)
     ∙ run_on t.0 rs q (n + 1) ys f.1 t.2
@@ -55,7 +52,7 @@ pub record Halted (p : Place) (n : ℕ) (xs : List Slot) (k : ℕ) : Type 0 wher
   pub halts : Halts to behind
 
 pub halted_here : (p : Place) (n : ℕ) (xs : List Slot) → Halts p xs → Halted p n xs n
-halted_here p n xs h = record { before = []; formed = tt; behind = xs; split = refl; at = none_more n; to = p; takes = refl; halts = h }
+halted_here p n xs h = record { before = []; formed = tt; behind = xs; split = refl; at = sym (add-zero n); to = p; takes = refl; halts = h }
 
 abbrev pub Walked : Place → ℕ → List Slot → Result Place FileFault → Type 0
 Walked p n xs (Ok q) = Through p xs q
