@@ -16,5 +16,7 @@ pub use walks::{
 // The number of bytes in a record.
 pub const RECORD_LENGTH: usize = 128;
 
+pub type RecordBytes = [u8; RECORD_LENGTH];
+
 #[cfg(test)]
 mod tests;
