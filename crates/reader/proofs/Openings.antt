@@ -2,7 +2,7 @@
 use Rattle.std.proofs.Common.{◌≡◌, ℕ, List, [], ℤ, ap, ◌∙◌}
 use Rattle.grammar.specs.declared.expect.Expect.TheVariants.{Opened}
 use Rattle.grammar.specs.Places.{Place, unnumbered}
-use Rattle.reader.specs.Means.{open_levels}
+use Rattle.reader.specs.Levels.{open_levels}
 use Rattle.reader.proofs.Masks.{none_open_zero}
 
 abbrev opened : ℕ → ℕ → List ℕ → ℤ → List ℕ → Place

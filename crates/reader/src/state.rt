@@ -1,36 +1,49 @@
 // Where a file stands behind the records read so far.
-ghost use Rattle.std.specs.Prelude.{◌+◌, ◌^◌, ◌<◌, ◌≤◌, unsigned_abs};
+ghost use Rattle.std.specs.Prelude.{◌+◌, ◌^◌, ◌≤◌, unsigned_abs};
 
+use crate::levels::Levels;
+use fields::{ACCOUNT_LENGTH, REFERENCE_LENGTH};
 use grammar::Expect;
 
 #[derive(Clone, Copy)]
-pub(crate) struct State {
-    pub(crate) expect: Expect,
+pub(crate) struct Numbers {
     pub(crate) sequence: u64,
     pub(crate) detail: u64,
-    pub(crate) reference: [u8; 21],
+    pub(crate) reference: [u8; REFERENCE_LENGTH],
     // the type of the main movement
     pub(crate) main_type: u64,
     // whether a detail of type 7 has come under it
     pub(crate) seven: bool,
-    // the open levels, a bit for each
-    pub(crate) levels: u64,
-    pub(crate) account: [u8; 37],
+    pub(crate) levels: Levels,
+}
+
+#[derive(Clone, Copy)]
+pub(crate) struct Sums {
+    pub(crate) account: [u8; ACCOUNT_LENGTH],
     pub(crate) balance: i64,
     pub(crate) debits: u64,
     pub(crate) credits: u64,
     pub(crate) count: u64,
-    pub(crate) statements: usize,
-    pub(crate) movements: usize,
-    // how many records have been read
-    pub(crate) read: u64,
-    ghost sequence_bound: { sequence < 2 ^ 55 },
-    ghost detail_bound: { detail < 2 ^ 55 },
-    ghost levels_bound: { levels < 1024 },
     ghost debits_bound: { debits ≤ 999999999999999 },
     ghost credits_bound: { credits ≤ 999999999999999 },
     ghost balance_bound: { unsigned_abs balance ≤ 2 ^ 55 + debits + credits },
-    ghost count_bound: { count ≤ read + 1 },
-    ghost statements_bound: { statements ≤ read },
-    ghost movements_bound: { movements ≤ read },
+}
+
+#[derive(Clone, Copy)]
+pub(crate) struct Standing {
+    pub(crate) expect: Expect,
+    pub(crate) numbers: Numbers,
+    pub(crate) sums: Sums,
+    pub(crate) statements: usize,
+    pub(crate) movements: usize,
+}
+
+#[derive(Clone, Copy)]
+pub(crate) struct State {
+    pub(crate) standing: Standing,
+    // how many records have been read
+    pub(crate) read: u64,
+    ghost count_bound: { standing.sums.count ≤ read + 1 },
+    ghost statements_bound: { standing.statements ≤ read },
+    ghost movements_bound: { standing.movements ≤ read },
 }
