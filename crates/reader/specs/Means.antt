@@ -1,5 +1,5 @@
 -- What the reader's state means: a place in a file.
-use Rattle.std.specs.Prelude.{◌≡◌, Ok, Err, Result}
+use Rattle.std.specs.Prelude.{◌≡◌, ℕ, Ok, Err, Result}
 use Rattle.grammar.specs.declared.faults.StatementFault.{StatementFault}
 use Rattle.grammar.specs.Places as P
 use Rattle.grammar.specs.Places.{Place}
@@ -12,11 +12,11 @@ use Rattle.reader.specs.Levels.{levels_of}
 abbrev pub numbers_of : Numbers → P.Numbers
 numbers_of n = record { sequence = n.sequence; detail = n.detail; reference = n.reference; type = n.main_type; seven = n.seven; levels = levels_of n.levels }
 
-abbrev pub sums_of : Sums → P.Sums
-sums_of s = record { account = s.account; balance = s.balance; debits = s.debits; credits = s.credits; count = s.count }
+abbrev pub sums_of : Sums → ℕ → P.Sums
+sums_of s count = record { account = s.account; balance = s.balance; debits = s.debits; credits = s.credits; count = count }
 
 abbrev pub place_of : Standing → Place
-place_of s = record { expect = s.expect; numbers = numbers_of s.numbers; sums = sums_of s.sums; statements = s.statements; movements = s.movements }
+place_of s = record { expect = s.expect; numbers = numbers_of s.numbers; sums = sums_of s.sums s.count; statements = s.statements; movements = s.movements }
 
 abbrev pub means : State → Place
 means s = place_of s.standing

@@ -3,7 +3,6 @@ ghost use Rattle.std.specs.Prelude.{◌≡◌};
 ghost use Rattle.grammar.specs.Rules.{first_communication_rules, communication_rules, trailer_rules, under};
 ghost use Rattle.grammar.specs.Steps.{after_communication, after_trailer, take_new_balance, take_communication};
 ghost use Rattle.reader.specs.Means.{numbers_of, place_of, meant};
-ghost use Rattle.reader.specs.Tests.{communication_sequence, communication_numbers};
 
 use crate::movement::succeeds;
 use crate::state::{Numbers, Standing};
@@ -51,31 +50,18 @@ impl Taking<'_> {
         Ok(self.behind_communication())
     }
 
-    // The current or the succeeding sequence number.
-    fn sequence_goes_on(&self) -> bool
-        ensures { result ≡ communication_sequence (numbers_of self.now.standing.now.numbers) self.now.bytes.now }
-    {
-        let number = sequence(self.bytes);
-        let current = self.standing.numbers.sequence;
-        number == current || succeeds(number, current)
-    }
-
-    // The current sequence number with the succeeding detail number, or the succeeding one with 0.
-    fn numbers_go_on(&self) -> bool
-        ensures { result ≡ communication_numbers (numbers_of self.now.standing.now.numbers) self.now.bytes.now }
-    {
-        let number = sequence(self.bytes);
-        let part = detail(self.bytes);
-        let numbers = &self.standing.numbers;
-        number == numbers.sequence && succeeds(part, numbers.detail)
-            || succeeds(number, numbers.sequence) && part == 0
-    }
-
     fn take_further_communication(&self) -> Result<Standing, StatementFault>
         ensures { meant result ≡ under (communication_rules (numbers_of self.now.standing.now.numbers) self.now.bytes.now) (after_communication (place_of self.now.standing.now) self.now.bytes.now) }
     {
-        rule(self.sequence_goes_on(), Number(3))?;
-        rule(self.numbers_go_on(), Number(7))?;
+        let numbers = &self.standing.numbers;
+        let (number, part) = (sequence(self.bytes), detail(self.bytes));
+        let current = number == numbers.sequence;
+        let succeeding = succeeds(number, numbers.sequence);
+        rule(current || succeeding, Number(3))?;
+        rule(
+            current && succeeds(part, numbers.detail) || succeeding && part == 0,
+            Number(7),
+        )?;
         Ok(self.behind_communication())
     }
 
@@ -94,7 +80,7 @@ impl Taking<'_> {
     {
         let bytes = self.bytes;
         let sums = &self.standing.sums;
-        rule(count(bytes) == sums.count, Number(17))?;
+        rule(count(bytes) == self.standing.count, Number(17))?;
         rule(debit_sum(bytes) == sums.debits, Money(23))?;
         rule(credit_sum(bytes) == sums.credits, Money(38))?;
         Ok(Standing {

@@ -1,12 +1,11 @@
 // Records that continue another, and information records.
 ghost use Rattle.std.specs.Prelude.{◌≡◌};
-ghost use Rattle.grammar.specs.Places.{counted_one};
 ghost use Rattle.grammar.specs.Rules.{information_rules, under};
 ghost use Rattle.grammar.specs.Steps.{after_counted, after_information, take_repeat};
-ghost use Rattle.reader.specs.Means.{sums_of, place_of, meant};
+ghost use Rattle.reader.specs.Means.{place_of, meant};
 
 use crate::movement::{codes_apart, succeeds};
-use crate::state::{Numbers, Standing, Sums};
+use crate::state::{Numbers, Standing};
 use crate::taking::{Taking, rule};
 use fields::{detail, link, next, reference, sequence};
 use grammar::Expect;
@@ -14,27 +13,13 @@ use grammar::StatementFault::{self, Number};
 use order::behind;
 
 impl Taking<'_> {
-    // The sums behind a record that is only counted.
-    pub(crate) fn counted_one(&self) -> Sums
-        ensures { sums_of result ≡ counted_one (sums_of self.now.standing.now.sums) }
-    {
-        let sums = &self.standing.sums;
-        Sums {
-            account: sums.account,
-            balance: sums.balance,
-            debits: sums.debits,
-            credits: sums.credits,
-            count: sums.count + 1,
-        }
-    }
-
     // Behind a record that changes only the count.
     pub(crate) fn behind_counted(&self, expect: Expect) -> Standing
         ensures { place_of result ≡ after_counted (place_of self.now.standing.now) expect }
     {
         Standing {
             expect,
-            sums: self.counted_one(),
+            count: self.standing.count + 1,
             ..*self.standing
         }
     }
@@ -62,7 +47,7 @@ impl Taking<'_> {
                 detail: detail(bytes),
                 ..self.standing.numbers
             },
-            sums: self.counted_one(),
+            count: self.standing.count + 1,
             ..*self.standing
         }
     }

@@ -1,10 +1,9 @@
 // Movements: main movements and details.
-ghost use Rattle.std.specs.Prelude.{◌≡◌, ◌==◌, is_some, IfSome};
+ghost use Rattle.std.specs.Prelude.{◌≡◌, ◌+◌, ◌==◌, is_some, IfSome};
 ghost use Rattle.grammar.specs.Places.{booked};
-ghost use Rattle.grammar.specs.Rules.{succeeding, detail_type, has_room, main_rules, detail_rules, under};
-ghost use Rattle.grammar.specs.Steps.{led_by_movement, after_main, after_detail, is_detail, take_movement};
+ghost use Rattle.grammar.specs.Rules.{succeeding, apart, detail_type, has_room, main_rules, detail_rules, under};
+ghost use Rattle.grammar.specs.Steps.{led_by_movement, after_main, after_detail, take_movement};
 ghost use Rattle.reader.specs.Means.{numbers_of, sums_of, place_of, meant};
-ghost use Rattle.reader.specs.Tests.{apart, level_allowed};
 
 use crate::levels::Levels;
 use crate::state::{Numbers, Standing, Sums};
@@ -32,16 +31,9 @@ pub(crate) fn succeeds(number: u64, before: u64) -> bool
 
 // Next and link are not both 1.
 pub(crate) fn codes_apart(bytes: &RecordBytes) -> bool
-    ensures { result ≡ apart bytes.now }
+    ensures { result ≡ (apart bytes.now).kept }
 {
     !(next(bytes) && link(bytes))
-}
-
-// A main movement of type 0 has level 0.
-fn level_allowed(bytes: &RecordBytes) -> bool
-    ensures { result ≡ level_allowed bytes.now }
-{
-    type_digit(bytes) != 0 || level(bytes) == 0
 }
 
 // The type of a detail fits under that of its main movement.
@@ -58,8 +50,8 @@ fn type_fits(main: u64, seven: bool, detail: u64) -> bool
 impl Taking<'_> {
     // The sums behind a main movement, where both stay within their limit.
     fn booked(&self) -> Option<Sums>
-        ensures room { is_some result ≡ has_room (sums_of self.now.standing.now.sums) self.now.bytes.now }
-        ensures booked { IfSome result (λ sums. sums_of sums ≡ booked (sums_of self.now.standing.now.sums) self.now.bytes.now) }
+        ensures room { is_some result ≡ has_room (place_of self.now.standing.now).sums self.now.bytes.now }
+        ensures booked { IfSome result (λ sums. sums_of sums (self.now.standing.now.count + 1) ≡ booked (place_of self.now.standing.now).sums self.now.bytes.now) }
     {
         let sums = &self.standing.sums;
         let amount = amount(self.bytes);
@@ -76,18 +68,18 @@ impl Taking<'_> {
             balance: sums.balance + signed_amount(self.bytes),
             debits,
             credits,
-            count: sums.count + 1,
         })
     }
 
     // Behind a movement.
     fn led_by_movement(&self, numbers: Numbers, sums: Sums) -> Standing
-        ensures { place_of result ≡ led_by_movement (place_of self.now.standing.now) self.now.bytes.now (numbers_of numbers) (sums_of sums) }
+        ensures { place_of result ≡ led_by_movement (place_of self.now.standing.now) self.now.bytes.now (numbers_of numbers) (sums_of sums (self.now.standing.now.count + 1)) }
     {
         Standing {
             expect: behind(next(self.bytes), link(self.bytes), Expect::Second),
             numbers,
             sums,
+            count: self.standing.count + 1,
             movements: self.standing.movements + 1,
             ..*self.standing
         }
@@ -105,7 +97,7 @@ impl Taking<'_> {
         rule(detail(bytes) == 0, Number(7))?;
         let sums = self.booked().ok_or(Money(33))?;
         rule(type_digit(bytes) <= 3, Number(54))?;
-        rule(level_allowed(bytes), Number(125))?;
+        rule(type_digit(bytes) != 0 || level(bytes) == 0, Number(125))?;
         rule(codes_apart(bytes), Number(128))?;
         let numbers = Numbers {
             sequence: sequence(bytes),
@@ -138,20 +130,15 @@ impl Taking<'_> {
             levels,
             ..*numbers
         };
-        Ok(self.led_by_movement(numbers, self.counted_one()))
+        Ok(self.led_by_movement(numbers, self.standing.sums))
     }
 
     // The current sequence number makes a movement a detail, unless it is the first of its statement.
-    fn is_detail(&self) -> bool
-        ensures { result ≡ is_detail (place_of self.now.standing.now) self.now.bytes.now }
-    {
-        sequence(self.bytes) == self.standing.numbers.sequence && !is_opened(self.standing.expect)
-    }
-
     pub(crate) fn take_movement(&self) -> Result<Standing, StatementFault>
         ensures { meant result ≡ take_movement (place_of self.now.standing.now) self.now.bytes.now }
     {
-        if self.is_detail() {
+        let first = is_opened(self.standing.expect);
+        if sequence(self.bytes) == self.standing.numbers.sequence && !first {
             self.take_detail()
         } else {
             self.take_main()

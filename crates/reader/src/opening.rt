@@ -26,14 +26,13 @@ fn unnumbered() -> Numbers
 }
 
 fn opened(bytes: &RecordBytes) -> Sums
-    ensures { sums_of result ≡ opened bytes.now }
+    ensures { sums_of result 1 ≡ opened bytes.now }
 {
     Sums {
         account: *old_account(bytes),
         balance: old_amount(bytes),
         debits: 0,
         credits: 0,
-        count: 1,
     }
 }
 
@@ -52,8 +51,8 @@ impl State {
                     balance: 0,
                     debits: 0,
                     credits: 0,
-                    count: 0,
                 },
+                count: 0,
                 statements: 0,
                 movements: 0,
             },
@@ -81,6 +80,7 @@ impl Taking<'_> {
             expect: Expect::Opened,
             numbers: unnumbered(),
             sums: opened(self.bytes),
+            count: 1,
             statements: self.standing.statements + 1,
             ..*self.standing
         }

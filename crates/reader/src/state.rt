@@ -23,7 +23,6 @@ pub(crate) struct Sums {
     pub(crate) balance: i64,
     pub(crate) debits: u64,
     pub(crate) credits: u64,
-    pub(crate) count: u64,
     ghost debits_bound: { debits ≤ 999999999999999 },
     ghost credits_bound: { credits ≤ 999999999999999 },
     ghost balance_bound: { unsigned_abs balance ≤ 2 ^ 55 + debits + credits },
@@ -34,6 +33,8 @@ pub(crate) struct Standing {
     pub(crate) expect: Expect,
     pub(crate) numbers: Numbers,
     pub(crate) sums: Sums,
+    // how many records of the statement count
+    pub(crate) count: u64,
     pub(crate) statements: usize,
     pub(crate) movements: usize,
 }
@@ -43,7 +44,7 @@ pub(crate) struct State {
     pub(crate) standing: Standing,
     // how many records have been read
     pub(crate) read: u64,
-    ghost count_bound: { standing.sums.count ≤ read + 1 },
+    ghost count_bound: { standing.count ≤ read + 1 },
     ghost statements_bound: { standing.statements ≤ read },
     ghost movements_bound: { standing.movements ≤ read },
 }

@@ -59,7 +59,10 @@ impl Taking<'_> {
     fn take_values(&self, kind: Kind) -> Result<Standing, StatementFault>
         ensures { meant result ≡ take_values (place_of self.now.standing.now) kind self.now.bytes.now }
     {
-        rule(may_come(self.standing.expect, kind), StatementFault::Misplaced)?;
+        rule(
+            may_come(self.standing.expect, kind),
+            StatementFault::Misplaced,
+        )?;
         self.take_kind(kind)
     }
 

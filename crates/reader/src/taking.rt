@@ -10,7 +10,7 @@ use recordbytes::RecordBytes;
 pub(crate) struct Taking<'a> {
     pub(crate) standing: &'a Standing,
     pub(crate) bytes: &'a RecordBytes,
-    ghost count_room: { standing.now.sums.count ≤ 1000000 },
+    ghost count_room: { standing.now.count ≤ 1000000 },
     ghost statements_room: { standing.now.statements ≤ 1000000 },
     ghost movements_room: { standing.now.movements ≤ 1000000 },
 }
