@@ -1,8 +1,7 @@
 -- Open levels as bits of a number: all masks with all levels, by computation.
-use Rattle.std.proofs.Common.{◌≡◌, ℕ, zero, suc, ◌+◌, ◌/◌, ◌%◌, ◌^◌, ◌<◌, ◌≤◌, Bool, true, false, cond, not, ◌&&◌, eqb, ltb, List, [], Some, None, Option, sym, refl, ap, arith, rules, ◌*◌}
+use Rattle.std.proofs.Common.{◌≡◌, ℕ, zero, suc, ◌+◌, ◌/◌, ◌%◌, ◌^◌, ◌<◌, ◌≤◌, Bool, true, false, cond, not, ◌&&◌, eqb, ltb, List, Some, None, Option, sym, refl, arith, rules, ◌*◌}
 use Rattle.std.specs.Option.{is_some, IfSome}
 use Rattle.std.specs.Str.{bytes_eq}
-use Rattle.std.proofs.lemmas.Bool.{or_right}
 use Rattle.std.proofs.lemmas.Bool.Decides.{Decides-below_and}
 use Rattle.std.proofs.lemmas.Slice.Eq.{bytes_eq-Decides}
 use Rattle.grammar.specs.Places.{none_open, level_fits, levels_behind}
@@ -28,10 +27,6 @@ none_alike m = cond (eqb m 0) (none_open (bits_below 10 m)) (not (none_open (bit
 pub none_is : (m : ℕ) → m < 1024 → eqb m 0 ≡ none_open (open_levels m)
 unfolding open_levels none_alike
 none_is m h = agreed (eqb m 0) (none_open (bits_below 10 m)) (among_all 1024 none_alike m refl h)
-
-pub none_open_zero : open_levels 0 ≡ []
-unfolding open_levels
-none_open_zero = refl
 
 -- BEHIND A LEVEL
 
@@ -62,9 +57,6 @@ unfolding open_levels behind_alike
 behind_is m l h k =
     stands (mask_behind m l) (level_fits (bits_below 10 m) l) (levels_behind (bits_below 10 m) l)
     (among_all 10 (behind_alike m) l (among_all 1024 (λ n. all_below 10 (behind_alike n)) m refl h) (omega (arith, k)))
-
-pub none_fits : (l : ℕ) → level_fits [] l ≡ true
-none_fits l = or_right (eqb l 0) true refl
 
 pub bit_is : (l : ℕ) → l ≤ 9 → (1 * 2 ^ l) % 18446744073709551616 ≡ 2 ^ l
 bit_is l k = search rules

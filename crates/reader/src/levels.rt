@@ -16,12 +16,14 @@ impl Levels {
     ghost use Rattle.grammar.specs.Places.{none_open, level_fits, levels_behind};
     ghost use Rattle.reader.specs.Levels.{levels_of};
 
+    #[tactic(auto, unfolding(crate::specs::Levels::open_levels))]
     pub(crate) fn none() -> Levels
         ensures { levels_of result ≡ [] }
     {
         Levels { mask: 0 }
     }
 
+    #[tactic(auto, using(crate::proofs::Masks::none_is))]
     pub(crate) fn none_open(self) -> bool
         ensures { result ≡ none_open (levels_of self) }
     {

@@ -1,6 +1,6 @@
 use Rattle.std.proofs.Common.{arith, rules, ◌≡◌, Ok}
 use Rattle.grammar.specs.Steps.{step}
-use Rattle.reader.specs.Means.{place_of, meant}
+use Rattle.reader.specs.Means.{place_of}
 use Rattle.reader.proofs.Growing.{grows}
 use Rattle.reader.proofs.state.State.step.Goals as goal
 
