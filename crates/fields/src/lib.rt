@@ -26,6 +26,7 @@ fn number_at(bytes: &RecordBytes, first: usize, last: usize) -> u64
 }
 
 // The thousandths that a sign byte and the digits at some positions mean.
+#[tactic(auto, using(recordbytes::proofs::Spanning::length_span, std::proofs::lemmas::Int::ints))]
 fn signed_at(bytes: &RecordBytes, sign: u8, first: usize, last: usize) -> i64
     requires { last ≤ first + 14 }
     ensures value { result ≡ signed_of sign (value_of (span_of bytes.now first last)) }
