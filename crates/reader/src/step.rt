@@ -76,7 +76,6 @@ impl Taking<'_> {
 
 impl State {
     // Takes a record, or refuses it and stays where it was.
-    #[tactic(auto, using(crate::proofs::Growing::grows))]
     pub(crate) fn step(&mut self, bytes: &RecordBytes) -> Result<(), StatementFault>
         requires { self.old.read < 1000000 }
         ensures steps { Stepped (means self.old) (step (means self.old) bytes.now) (means self.new) result }
