@@ -1,11 +1,11 @@
-// A record that is being taken, behind the records before it.
+// Taking a record.
 ghost use Rattle.std.specs.Prelude.{◌≡◌, ◌≤◌, true, false, MatchResult};
 
 use crate::state::Standing;
 use grammar::StatementFault;
 use recordbytes::RecordBytes;
 
-// There is room to count one more.
+// A record that is being taken where a file stands, with room to count it.
 #[derive(Clone, Copy)]
 pub(crate) struct Taking<'a> {
     pub(crate) standing: &'a Standing,
