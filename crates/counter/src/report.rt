@@ -1,10 +1,10 @@
 // What is printed of a file.
 use crate::arguments::Cutting;
-use crate::names::{KINDS, damage_name, fault_name, kind_name};
+use crate::names::{KINDS, damage_name, kind_name};
 use grammar::{Counts, FileFault};
 use reader::check;
 use recordbytes::RECORD_LENGTH;
-use refusals::{fault_cause, fault_number, fault_position, fault_record};
+use refusals::Refusal;
 use source::{Fetched, Lines, Packed, Source};
 use std::io;
 use survey::{Sort, Survey, survey_of};
@@ -47,12 +47,14 @@ fn report_counts(rt: &HostRuntime, counts: Counts) -> io::Result<()> {
 }
 
 fn report_fault(rt: &HostRuntime, fault: FileFault) -> io::Result<()> {
-    let number = fault_number(fault);
-    let record = fault_record(fault);
-    let position = fault_position(fault);
-    let cause = fault_cause(fault);
+    let Refusal {
+        number,
+        record,
+        position,
+        cause,
+    } = Refusal::from(fault);
     println!(rt; "   refused: {number} at record {record}, position {position}, cause {cause}")?;
-    println!(rt; "            {}", fault_name(number, position))
+    println!(rt; "            {fault}")
 }
 
 fn report_survey(rt: &HostRuntime, survey: Survey) -> io::Result<()> {

@@ -7,13 +7,17 @@ ghost use Rattle.recordbytes.specs.Spans.{span as span_of};
 ghost use Rattle.values.specs.Money.{signed as signed_of};
 ghost use Rattle.grammar.specs.Fields.{byte_at, is_one, signed_amount, old_amount, new_amount, digit_of, sequence, detail, reference, next, link, is_debit, amount, type, level, old_account, new_account, count, debit_sum, credit_sum, another};
 
-use recordbytes::{RECORD_LENGTH, number, span};
+use recordbytes::{RecordBytes, number, span};
 use values::signed;
 
-type Bytes = [u8; RECORD_LENGTH];
+// The number of bytes of a bank's reference.
+pub const REFERENCE_LENGTH: usize = 21;
+
+// The number of bytes of an account with its currency.
+pub const ACCOUNT_LENGTH: usize = 37;
 
 // The number in the digits at some positions, at most fifteen.
-fn number_at(bytes: &Bytes, first: usize, last: usize) -> u64
+fn number_at(bytes: &RecordBytes, first: usize, last: usize) -> u64
     requires { last ≤ first + 14 }
     ensures value { result ≡ value_of (span_of bytes.now first last) }
     ensures bound { result < 2 ^ 55 }
@@ -22,7 +26,8 @@ fn number_at(bytes: &Bytes, first: usize, last: usize) -> u64
 }
 
 // The thousandths that a sign byte and the digits at some positions mean.
-fn signed_at(bytes: &Bytes, sign: u8, first: usize, last: usize) -> i64
+#[tactic(auto, using(recordbytes::proofs::Spanning::length_span, std::proofs::lemmas::Int::ints))]
+fn signed_at(bytes: &RecordBytes, sign: u8, first: usize, last: usize) -> i64
     requires { last ≤ first + 14 }
     ensures value { result ≡ signed_of sign (value_of (span_of bytes.now first last)) }
     ensures bound { unsigned_abs result < 2 ^ 55 }
@@ -34,60 +39,58 @@ fn digit_of(byte: u8) -> u64
     ensures value { result ≡ digit_of byte }
     ensures bound { result ≤ 9 }
 {
-    if byte >= b'0' && byte <= b'9' {
-        (byte - b'0') as u64
-    } else {
-        0
+    match byte {
+        b'0'..=b'9' => u64::from(byte - b'0'),
+        _ => 0,
     }
 }
 
-pub fn sequence(bytes: &Bytes) -> u64
+pub fn sequence(bytes: &RecordBytes) -> u64
     ensures value { result ≡ sequence bytes.now }
     ensures bound { result < 2 ^ 55 }
 {
     number_at(bytes, 3, 6)
 }
 
-pub fn detail(bytes: &Bytes) -> u64
+pub fn detail(bytes: &RecordBytes) -> u64
     ensures value { result ≡ detail bytes.now }
     ensures bound { result < 2 ^ 55 }
 {
     number_at(bytes, 7, 10)
 }
 
-pub fn reference(bytes: &Bytes) -> &[u8]
-    ensures value { result.now ≡ reference bytes.now }
-    ensures len { length result.now ≡ 21 }
+pub fn reference(bytes: &RecordBytes) -> &[u8; REFERENCE_LENGTH]
+    ensures { result.now ≡ reference bytes.now }
 {
-    &bytes[10..31]
+    bytes[10..31].as_array().unwrap()
 }
 
-pub fn next(bytes: &Bytes) -> bool
+pub fn next(bytes: &RecordBytes) -> bool
     ensures { result ≡ next bytes.now }
 {
     bytes[125] == b'1'
 }
 
-pub fn link(bytes: &Bytes) -> bool
+pub fn link(bytes: &RecordBytes) -> bool
     ensures { result ≡ link bytes.now }
 {
     bytes[127] == b'1'
 }
 
-pub fn is_debit(bytes: &Bytes) -> bool
+pub fn is_debit(bytes: &RecordBytes) -> bool
     ensures { result ≡ is_debit bytes.now }
 {
     bytes[31] == b'1'
 }
 
-pub fn amount(bytes: &Bytes) -> u64
+pub fn amount(bytes: &RecordBytes) -> u64
     ensures value { result ≡ amount bytes.now }
     ensures bound { result < 2 ^ 55 }
 {
     number_at(bytes, 33, 47)
 }
 
-pub fn signed_amount(bytes: &Bytes) -> i64
+pub fn signed_amount(bytes: &RecordBytes) -> i64
     ensures value { result ≡ signed_amount bytes.now }
     ensures bound { unsigned_abs result < 2 ^ 55 }
 {
@@ -95,66 +98,64 @@ pub fn signed_amount(bytes: &Bytes) -> i64
 }
 
 // The type, the first digit of the transaction code.
-pub fn type_digit(bytes: &Bytes) -> u64
+pub fn type_digit(bytes: &RecordBytes) -> u64
     ensures value { result ≡ type bytes.now }
     ensures bound { result ≤ 9 }
 {
     digit_of(bytes[53])
 }
 
-pub fn level(bytes: &Bytes) -> u64
+pub fn level(bytes: &RecordBytes) -> u64
     ensures value { result ≡ level bytes.now }
     ensures bound { result ≤ 9 }
 {
     digit_of(bytes[124])
 }
 
-pub fn count(bytes: &Bytes) -> u64
+pub fn count(bytes: &RecordBytes) -> u64
     ensures { result ≡ count bytes.now }
 {
     number_at(bytes, 17, 22)
 }
 
-pub fn debit_sum(bytes: &Bytes) -> u64
+pub fn debit_sum(bytes: &RecordBytes) -> u64
     ensures { result ≡ debit_sum bytes.now }
 {
     number_at(bytes, 23, 37)
 }
 
-pub fn credit_sum(bytes: &Bytes) -> u64
+pub fn credit_sum(bytes: &RecordBytes) -> u64
     ensures { result ≡ credit_sum bytes.now }
 {
     number_at(bytes, 38, 52)
 }
 
-pub fn another(bytes: &Bytes) -> bool
+pub fn another(bytes: &RecordBytes) -> bool
     ensures { result ≡ another bytes.now }
 {
     bytes[127] == b'1'
 }
 
-pub fn old_account(bytes: &Bytes) -> &[u8]
-    ensures value { result.now ≡ old_account bytes.now }
-    ensures len { length result.now ≡ 37 }
+pub fn old_account(bytes: &RecordBytes) -> &[u8; ACCOUNT_LENGTH]
+    ensures { result.now ≡ old_account bytes.now }
 {
-    &bytes[5..42]
+    bytes[5..42].as_array().unwrap()
 }
 
-pub fn old_amount(bytes: &Bytes) -> i64
+pub fn old_amount(bytes: &RecordBytes) -> i64
     ensures value { result ≡ old_amount bytes.now }
     ensures bound { unsigned_abs result < 2 ^ 55 }
 {
     signed_at(bytes, bytes[42], 44, 58)
 }
 
-pub fn new_account(bytes: &Bytes) -> &[u8]
-    ensures value { result.now ≡ new_account bytes.now }
-    ensures len { length result.now ≡ 37 }
+pub fn new_account(bytes: &RecordBytes) -> &[u8; ACCOUNT_LENGTH]
+    ensures { result.now ≡ new_account bytes.now }
 {
-    &bytes[4..41]
+    bytes[4..41].as_array().unwrap()
 }
 
-pub fn new_amount(bytes: &Bytes) -> i64
+pub fn new_amount(bytes: &RecordBytes) -> i64
     ensures { result ≡ new_amount bytes.now }
 {
     signed_at(bytes, bytes[41], 43, 57)

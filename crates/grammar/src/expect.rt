@@ -1,5 +1,5 @@
 // What may come next in a file.
-#[derive(Clone, Copy)]
+#[derive(Clone, Copy, PartialEq, Eq, Debug)]
 pub enum Expect {
     // the first header
     Start,

@@ -56,17 +56,17 @@ pub fn behind_trailer(another: bool) -> Expect
 pub fn is_opened(expect: Expect) -> bool
     ensures { result ≡ is_opened expect }
 {
-    matches!(expect, Expect::Opened)
+    expect == Expect::Opened
 }
 
 pub fn is_first_communication(expect: Expect) -> bool
     ensures { result ≡ is_first_communication expect }
 {
-    matches!(expect, Expect::FirstCommunication)
+    expect == Expect::FirstCommunication
 }
 
 pub fn may_end(expect: Expect) -> bool
     ensures { result ≡ may_end expect }
 {
-    matches!(expect, Expect::End)
+    expect == Expect::End
 }

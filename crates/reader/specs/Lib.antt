@@ -1,3 +1,3 @@
+pub mod Levels
 pub mod Means
-pub mod Tests
 pub mod Reads

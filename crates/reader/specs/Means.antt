@@ -1,43 +1,31 @@
 -- What the reader's state means: a place in a file.
---   open_levels   the open levels that a mask with a bit for each stands for, the highest first
-use Rattle.std.specs.Prelude.{◌≡◌, ℕ, zero, suc, ◌+◌, ◌/◌, ◌%◌, ◌^◌, Bool, cond, ◌||◌, List, [], ◌∷◌, Ok, Err, Result, ◌==◌}
+use Rattle.std.specs.Prelude.{◌≡◌, ℕ, Ok, Err, Result}
 use Rattle.grammar.specs.declared.faults.StatementFault.{StatementFault}
+use Rattle.grammar.specs.Places as P
 use Rattle.grammar.specs.Places.{Place}
+use Rattle.reader.specs.declared.state.Numbers.{Numbers}
+use Rattle.reader.specs.declared.state.Sums.{Sums}
+use Rattle.reader.specs.declared.state.Standing.{Standing}
 use Rattle.reader.specs.declared.state.State.{State}
+use Rattle.reader.specs.Levels.{levels_of}
 
-abbrev pub bits_below : ℕ → ℕ → List ℕ
-bits_below zero mask = []
-bits_below (suc level) mask = cond (mask / 2 ^ level % 2 == 1) (level ∷ bits_below level mask) (bits_below level mask)
+abbrev pub numbers_of : Numbers → P.Numbers
+numbers_of n = record { sequence = n.sequence; detail = n.detail; reference = n.reference; type = n.main_type; seven = n.seven; levels = levels_of n.levels }
 
-unfoldable pub open_levels : ℕ → List ℕ
-open_levels mask = bits_below 10 mask
+abbrev pub sums_of : Sums → ℕ → P.Sums
+sums_of s count = record { account = s.account; balance = s.balance; debits = s.debits; credits = s.credits; count = count }
 
-abbrev pub mask_fits : ℕ → ℕ → Bool
-mask_fits mask level = level == 0 || (mask / 2 ^ level % 2 == 1 || mask / 2 ^ level == 0)
-
-abbrev pub mask_behind : ℕ → ℕ → ℕ
-mask_behind mask level = cond (level == 0) mask (cond (mask / 2 ^ level % 2 == 1) (mask % 2 ^ level) (mask + 2 ^ level))
+abbrev pub place_of : Standing → Place
+place_of s = record { expect = s.expect; numbers = numbers_of s.numbers; sums = sums_of s.sums s.count; statements = s.statements; movements = s.movements }
 
 abbrev pub means : State → Place
-means s =
-    record {
-      expect = s.expect;
-      numbers = record { sequence = s.sequence; detail = s.detail; reference = s.reference; type = s.main_type; seven = s.seven; levels = open_levels s.levels };
-      sums = record { account = s.account; balance = s.balance; debits = s.debits; credits = s.credits; count = s.count };
-      statements = s.statements;
-      movements = s.movements;
-    }
+means s = place_of s.standing
 
-abbrev pub meant : Result State StatementFault → Result Place StatementFault
-meant (Ok s) = Ok (means s)
+abbrev pub meant : Result Standing StatementFault → Result Place StatementFault
+meant (Ok s) = Ok (place_of s)
 meant (Err f) = Err f
 
 -- what a step answers, and where it leaves the reader: behind a refusal it is where it was
 abbrev pub Stepped : Place → Result Place StatementFault → Place → Result (Unit {0}) StatementFault → Type 0
 Stepped p (Ok q) after r = (r ≡ Ok tt) × (after ≡ q)
 Stepped p (Err f) after r = (r ≡ Err f) × (after ≡ p)
-
--- a state that was reached has read one record more
-abbrev pub Advanced : Result State StatementFault → ℕ → Type 0
-Advanced (Ok s) read = s.read ≡ read + 1
-Advanced (Err f) read = Unit {0}

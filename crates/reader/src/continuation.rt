@@ -1,93 +1,66 @@
 // Records that continue another, and information records.
-ghost use Rattle.std.specs.Prelude.{◌≡◌, ◌+◌, ◌<◌};
-ghost use Rattle.std.specs.Str.{bytes_eq};
-ghost use Rattle.grammar.specs.Fields.{reference};
+ghost use Rattle.std.specs.Prelude.{◌≡◌};
 ghost use Rattle.grammar.specs.Rules.{information_rules, under};
 ghost use Rattle.grammar.specs.Steps.{after_counted, after_information, take_repeat};
-ghost use Rattle.reader.specs.Means.{Advanced, means, meant};
+ghost use Rattle.reader.specs.Means.{place_of, meant};
 
-use crate::movement::codes_apart;
-use crate::state::State;
+use crate::movement::{codes_apart, succeeds};
+use crate::state::{Numbers, Standing};
+use crate::taking::{Taking, rule};
 use fields::{detail, link, next, reference, sequence};
-use grammar::{Expect, StatementFault};
+use grammar::Expect;
+use grammar::StatementFault::{self, Number};
 use order::behind;
-use recordbytes::{RECORD_LENGTH, same_bytes};
 
-type Bytes = [u8; RECORD_LENGTH];
-
-impl State {
+impl Taking<'_> {
     // Behind a record that changes only the count.
-    pub(crate) fn behind_counted(&self, expect: Expect) -> State
-        requires { self.now.read < 1000000 }
-        ensures means { means result ≡ after_counted (means self.now) expect }
-        ensures read { result.read ≡ self.now.read + 1 }
+    pub(crate) fn behind_counted(&self, expect: Expect) -> Standing
+        ensures { place_of result ≡ after_counted (place_of self.now.standing.now) expect }
     {
-        let mut s = *self;
-        s.read += 1;
-        s.expect = expect;
-        s.count += 1;
-        s
+        Standing {
+            expect,
+            count: self.standing.count + 1,
+            ..*self.standing
+        }
     }
 
     // A record that repeats the numbers of the one before, of which `continued` is the next part.
-    pub(crate) fn take_repeat(
-        &self,
-        bytes: &Bytes,
-        continued: Expect,
-    ) -> Result<State, StatementFault>
-        requires { self.now.read < 1000000 }
-        ensures means { meant result ≡ take_repeat (means self.now) bytes.now continued }
-        ensures read { Advanced result self.now.read }
+    pub(crate) fn take_repeat(&self, continued: Expect) -> Result<Standing, StatementFault>
+        ensures { meant result ≡ take_repeat (place_of self.now.standing.now) self.now.bytes.now continued }
     {
-        if sequence(bytes) != self.sequence {
-            return Err(StatementFault::Number(3));
-        }
-        if detail(bytes) != self.detail {
-            return Err(StatementFault::Number(7));
-        }
-        if !codes_apart(bytes) {
-            return Err(StatementFault::Number(128));
-        }
+        let bytes = self.bytes;
+        let numbers = &self.standing.numbers;
+        rule(sequence(bytes) == numbers.sequence, Number(3))?;
+        rule(detail(bytes) == numbers.detail, Number(7))?;
+        rule(codes_apart(bytes), Number(128))?;
         Ok(self.behind_counted(behind(next(bytes), link(bytes), continued)))
     }
 
     // Behind an information record.
-    fn behind_information(&self, bytes: &Bytes) -> State
-        requires { self.now.read < 1000000 }
-        ensures means { means result ≡ after_information (means self.now) bytes.now }
-        ensures read { result.read ≡ self.now.read + 1 }
+    fn behind_information(&self) -> Standing
+        ensures { place_of result ≡ after_information (place_of self.now.standing.now) self.now.bytes.now }
     {
-        let mut s = *self;
-        s.read += 1;
-        s.expect = behind(next(bytes), link(bytes), Expect::InformationSecond);
-        s.detail = detail(bytes);
-        s.count += 1;
-        s
+        let bytes = self.bytes;
+        Standing {
+            expect: behind(next(bytes), link(bytes), Expect::InformationSecond),
+            numbers: Numbers {
+                detail: detail(bytes),
+                ..self.standing.numbers
+            },
+            count: self.standing.count + 1,
+            ..*self.standing
+        }
     }
 
-    fn same_reference(&self, bytes: &Bytes) -> bool
-        ensures { result ≡ bytes_eq (reference bytes.now) self.now.reference }
+    pub(crate) fn take_information(&self) -> Result<Standing, StatementFault>
+        ensures { meant result ≡ under (information_rules (place_of self.now.standing.now).numbers self.now.bytes.now) (after_information (place_of self.now.standing.now) self.now.bytes.now) }
     {
-        same_bytes(reference(bytes), &self.reference)
-    }
-
-    pub(crate) fn take_information(&self, bytes: &Bytes) -> Result<State, StatementFault>
-        requires { self.now.read < 1000000 }
-        ensures means { meant result ≡ under (information_rules (means self.now).numbers bytes.now) (after_information (means self.now) bytes.now) }
-        ensures read { Advanced result self.now.read }
-    {
-        if sequence(bytes) != self.sequence {
-            return Err(StatementFault::Number(3));
-        }
-        if !self.detail_follows(bytes) {
-            return Err(StatementFault::Number(7));
-        }
-        if !self.same_reference(bytes) {
-            return Err(StatementFault::Number(11));
-        }
-        if !codes_apart(bytes) {
-            return Err(StatementFault::Number(128));
-        }
-        Ok(self.behind_information(bytes))
+        let bytes = self.bytes;
+        let numbers = &self.standing.numbers;
+        rule(sequence(bytes) == numbers.sequence, Number(3))?;
+        rule(succeeds(detail(bytes), numbers.detail), Number(7))?;
+        rule(*reference(bytes) == numbers.reference, Number(11))?;
+        rule(codes_apart(bytes), Number(128))?;
+        Ok(self.behind_information())
     }
 }

@@ -1,66 +1,58 @@
 // The open levels, as a mask with a bit for each of 1 to 9.
-ghost use Rattle.std.specs.Prelude.{◌≡◌, ◌^◌, ◌<◌, ◌≤◌, true, []};
-ghost use Rattle.grammar.specs.Places.{none_open, level_fits, levels_behind};
-ghost use Rattle.reader.specs.Means.{open_levels, mask_fits, mask_behind};
+ghost use Rattle.std.specs.Prelude.{◌<◌};
 
-pub fn none_open(mask: u64) -> bool
-    requires { mask < 1024 }
-    ensures { result ≡ none_open (open_levels mask) }
-{
-    mask == 0
+use fields::level;
+use recordbytes::RecordBytes;
+
+#[derive(Clone, Copy)]
+pub(crate) struct Levels {
+    mask: u64,
+    ghost bound: { mask < 1024 },
 }
 
-fn bit(level: u64) -> u64
-    requires { level ≤ 9 }
-    ensures { result ≡ 2 ^ level }
-{
-    1 << level
-}
+impl Levels {
+    ghost use Rattle.std.specs.Prelude.{◌≡◌, [], is_some, IfSome};
+    ghost use Rattle.grammar.specs.Fields.{level};
+    ghost use Rattle.grammar.specs.Places.{none_open, level_fits, levels_behind};
+    ghost use Rattle.reader.specs.Levels.{levels_of};
 
-fn mask_fits(mask: u64, level: u64) -> bool
-    requires { (mask < 1024) × (level ≤ 9) }
-    ensures { result ≡ mask_fits mask level }
-{
-    let high = mask / bit(level);
-    level == 0 || high % 2 == 1 || high == 0
-}
-
-fn mask_behind(mask: u64, level: u64) -> u64
-    requires { (mask < 1024) × (level ≤ 9) }
-    ensures { result ≡ mask_behind mask level }
-{
-    let one = bit(level);
-    if level == 0 {
-        mask
-    } else if mask / one % 2 == 1 {
-        mask % one
-    } else {
-        mask + one
+    #[tactic(auto, unfolding(crate::specs::Levels::open_levels))]
+    pub(crate) fn none() -> Levels
+        ensures { levels_of result ≡ [] }
+    {
+        Levels { mask: 0 }
     }
-}
 
-// Whether a level does nothing, is open, or is above all open ones.
-pub fn level_fits(mask: u64, level: u64) -> bool
-    requires { (mask < 1024) × (level ≤ 9) }
-    ensures { result ≡ level_fits (open_levels mask) level }
-{
-    mask_fits(mask, level)
-}
+    #[tactic(auto, using(crate::proofs::Masks::none_is))]
+    pub(crate) fn none_open(self) -> bool
+        ensures { result ≡ none_open (levels_of self) }
+    {
+        self.mask == 0
+    }
 
-// The open levels behind a level that fits.
-pub fn levels_behind(mask: u64, level: u64) -> u64
-    requires { (mask < 1024) × ((level ≤ 9) × (level_fits (open_levels mask) level ≡ true)) }
-    ensures value { open_levels result ≡ levels_behind (open_levels mask) level }
-    ensures bound { result < 1024 }
-{
-    mask_behind(mask, level)
-}
+    // The open levels behind a main movement.
+    pub(crate) fn first(bytes: &RecordBytes) -> Levels
+        ensures { levels_of result ≡ levels_behind [] (level bytes.now) }
+    {
+        Levels::none().behind(bytes).unwrap()
+    }
 
-// The open levels behind a main movement.
-pub fn first_level(level: u64) -> u64
-    requires { level ≤ 9 }
-    ensures value { open_levels result ≡ levels_behind [] level }
-    ensures bound { result < 1024 }
-{
-    mask_behind(0, level)
+    // The open levels behind a record, where its level does nothing, is open, or is above all open ones.
+    pub(crate) fn behind(self, bytes: &RecordBytes) -> Option<Levels>
+        ensures fits { is_some result ≡ level_fits (levels_of self) (level bytes.now) }
+        ensures behind { IfSome result (λ after. levels_of after ≡ levels_behind (levels_of self) (level bytes.now)) }
+    {
+        let level = level(bytes);
+        let bit = 1 << level;
+        let mask = if level == 0 {
+            self.mask
+        } else if self.mask / bit % 2 == 1 {
+            self.mask % bit
+        } else if self.mask < bit {
+            self.mask + bit
+        } else {
+            return None;
+        };
+        Some(Levels { mask })
+    }
 }

@@ -9,5 +9,6 @@ mod movement;
 mod opening;
 mod state;
 mod step;
+mod taking;
 
 pub use checking::{MOST_SLOTS, check};

@@ -1,15 +1,40 @@
 // Headers and old balances.
-ghost use Rattle.std.specs.Prelude.{◌≡◌, ◌+◌, ◌<◌};
-ghost use Rattle.grammar.specs.Places.{beginning};
+ghost use Rattle.std.specs.Prelude.{◌≡◌};
+ghost use Rattle.grammar.specs.Places.{beginning, unnumbered, opened};
 ghost use Rattle.grammar.specs.Steps.{after_header, after_old_balance};
-ghost use Rattle.reader.specs.Means.{means};
+ghost use Rattle.reader.specs.Means.{means, numbers_of, sums_of, place_of};
 
-use crate::state::State;
-use fields::{old_account, old_amount};
+use crate::levels::Levels;
+use crate::state::{Numbers, Standing, State, Sums};
+use crate::taking::Taking;
+use fields::{ACCOUNT_LENGTH, REFERENCE_LENGTH, old_account, old_amount};
 use grammar::Expect;
-use recordbytes::RECORD_LENGTH;
+use recordbytes::RecordBytes;
 
-type Bytes = [u8; RECORD_LENGTH];
+// Before the first movement of a statement.
+fn unnumbered() -> Numbers
+    ensures { numbers_of result ≡ unnumbered }
+{
+    Numbers {
+        sequence: 0,
+        detail: 0,
+        reference: [b' '; REFERENCE_LENGTH],
+        main_type: 0,
+        seven: false,
+        levels: Levels::none(),
+    }
+}
+
+fn opened(bytes: &RecordBytes) -> Sums
+    ensures { sums_of result 1 ≡ opened bytes.now }
+{
+    Sums {
+        account: *old_account(bytes),
+        balance: old_amount(bytes),
+        debits: 0,
+        credits: 0,
+    }
+}
 
 impl State {
     // Before the first record.
@@ -18,57 +43,46 @@ impl State {
         ensures read { result.read ≡ 0 }
     {
         State {
-            expect: Expect::Start,
-            sequence: 0,
-            detail: 0,
-            reference: [b' '; 21],
-            main_type: 0,
-            seven: false,
-            levels: 0,
-            account: [b' '; 37],
-            balance: 0,
-            debits: 0,
-            credits: 0,
-            count: 0,
-            statements: 0,
-            movements: 0,
+            standing: Standing {
+                expect: Expect::Start,
+                numbers: unnumbered(),
+                sums: Sums {
+                    account: [b' '; ACCOUNT_LENGTH],
+                    balance: 0,
+                    debits: 0,
+                    credits: 0,
+                },
+                count: 0,
+                statements: 0,
+                movements: 0,
+            },
             read: 0,
         }
     }
+}
 
+impl Taking<'_> {
     // Behind a header.
-    pub(crate) fn behind_header(&self) -> State
-        requires { self.now.read < 1000000 }
-        ensures means { means result ≡ after_header (means self.now) }
-        ensures read { result.read ≡ self.now.read + 1 }
+    pub(crate) fn behind_header(&self) -> Standing
+        ensures { place_of result ≡ after_header (place_of self.now.standing.now) }
     {
-        let mut s = *self;
-        s.read += 1;
-        s.expect = Expect::OldBalance;
-        s
+        Standing {
+            expect: Expect::OldBalance,
+            ..*self.standing
+        }
     }
 
     // Behind an old balance.
-    pub(crate) fn behind_old_balance(&self, bytes: &Bytes) -> State
-        requires { self.now.read < 1000000 }
-        ensures means { means result ≡ after_old_balance (means self.now) bytes.now }
-        ensures read { result.read ≡ self.now.read + 1 }
+    pub(crate) fn behind_old_balance(&self) -> Standing
+        ensures { place_of result ≡ after_old_balance (place_of self.now.standing.now) self.now.bytes.now }
     {
-        let mut s = *self;
-        s.read += 1;
-        s.expect = Expect::Opened;
-        s.sequence = 0;
-        s.detail = 0;
-        s.reference = [b' '; 21];
-        s.main_type = 0;
-        s.seven = false;
-        s.levels = 0;
-        s.account.copy_from_slice(old_account(bytes));
-        s.balance = old_amount(bytes);
-        s.debits = 0;
-        s.credits = 0;
-        s.count = 1;
-        s.statements += 1;
-        s
+        Standing {
+            expect: Expect::Opened,
+            numbers: unnumbered(),
+            sums: opened(self.bytes),
+            count: 1,
+            statements: self.standing.statements + 1,
+            ..*self.standing
+        }
     }
 }

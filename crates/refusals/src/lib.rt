@@ -2,36 +2,26 @@
 #![tactic(auto)]
 
 ghost use Rattle.std.specs.Prelude.{◌≡◌};
-ghost use Rattle.grammar.specs.Faults.{record_number, record_position, statement_number, statement_position, fault_number as number_of, fault_record as record_of, fault_position as position_of, fault_cause as cause_of};
+ghost use Rattle.grammar.specs.Faults.{statement_number, statement_position};
+ghost use Rattle.refusals.specs.Refusals.{IsRefusalOf};
 
-use grammar::{FileFault, RecordFault, StatementFault};
+use grammar::{FileFault, Located, RecordFault, SourceFault, StatementFault};
 
-fn record_number(fault: RecordFault) -> usize
-    ensures { result ≡ record_number fault }
-{
-    match fault {
-        RecordFault::Forbidden(_) => 2,
-        RecordFault::Unknown => 3,
-        RecordFault::Misformed(_) => 4,
-    }
-}
-
-fn record_position(fault: RecordFault) -> usize
-    ensures { result ≡ record_position fault }
-{
-    match fault {
-        RecordFault::Forbidden(position) => position,
-        RecordFault::Unknown => 1,
-        RecordFault::Misformed(start) => start,
-    }
+#[derive(Clone, Copy, PartialEq, Eq, Debug, Default)]
+pub struct Refusal {
+    pub number: usize,
+    pub record: usize,
+    pub position: usize,
+    pub cause: u8,
 }
 
 fn statement_number(fault: StatementFault) -> usize
     ensures { result ≡ statement_number fault }
 {
     match fault {
-        StatementFault::Record(fault) => record_number(fault),
-        StatementFault::Misplaced => 3,
+        StatementFault::Record(RecordFault::Forbidden(_)) => 2,
+        StatementFault::Record(RecordFault::Unknown) | StatementFault::Misplaced => 3,
+        StatementFault::Record(RecordFault::Misformed(_)) => 4,
         StatementFault::Number(_) => 5,
         StatementFault::Money(_) => 6,
     }
@@ -41,53 +31,40 @@ pub fn statement_position(fault: StatementFault) -> usize
     ensures { result ≡ statement_position fault }
 {
     match fault {
-        StatementFault::Record(fault) => record_position(fault),
-        StatementFault::Misplaced => 1,
-        StatementFault::Number(position) => position,
-        StatementFault::Money(position) => position,
+        StatementFault::Record(RecordFault::Unknown) | StatementFault::Misplaced => 1,
+        StatementFault::Record(RecordFault::Forbidden(position))
+        | StatementFault::Record(RecordFault::Misformed(position))
+        | StatementFault::Number(position)
+        | StatementFault::Money(position) => position,
     }
 }
 
-pub fn fault_number(fault: FileFault) -> usize
-    ensures { result ≡ number_of fault }
-{
-    match fault {
-        FileFault::Source(_) => 1,
-        FileFault::Statement(located) => statement_number(located.fault),
-        FileFault::EndsEarly(_) => 7,
-        FileFault::TooManySlots => 8,
-    }
-}
+impl From<FileFault> for Refusal {
+    ghost from_gives = { IsRefusalOf };
 
-pub fn fault_record(fault: FileFault) -> usize
-    ensures { result ≡ record_of fault }
-{
-    match fault {
-        FileFault::Source(damaged) => damaged.slot,
-        FileFault::Statement(located) => located.slot,
-        FileFault::EndsEarly(slot) => slot,
-        FileFault::TooManySlots => 0,
-    }
-}
-
-pub fn fault_position(fault: FileFault) -> usize
-    ensures { result ≡ position_of fault }
-{
-    match fault {
-        FileFault::Source(_) => 0,
-        FileFault::Statement(located) => statement_position(located.fault),
-        FileFault::EndsEarly(_) => 0,
-        FileFault::TooManySlots => 0,
-    }
-}
-
-pub fn fault_cause(fault: FileFault) -> u8
-    ensures { result ≡ cause_of fault }
-{
-    match fault {
-        FileFault::Source(damaged) => damaged.damage.cause,
-        FileFault::Statement(_) => 0,
-        FileFault::EndsEarly(_) => 0,
-        FileFault::TooManySlots => 0,
+    fn from(fault: FileFault) -> Refusal {
+        match fault {
+            FileFault::Source(SourceFault { slot, damage }) => Refusal {
+                number: 1,
+                record: slot,
+                cause: damage.cause,
+                ..Refusal::default()
+            },
+            FileFault::Statement(Located { slot, fault }) => Refusal {
+                number: statement_number(fault),
+                record: slot,
+                position: statement_position(fault),
+                ..Refusal::default()
+            },
+            FileFault::EndsEarly(end) => Refusal {
+                number: 7,
+                record: end,
+                ..Refusal::default()
+            },
+            FileFault::TooManySlots => Refusal {
+                number: 8,
+                ..Refusal::default()
+            },
+        }
     }
 }

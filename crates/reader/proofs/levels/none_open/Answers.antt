@@ -1,5 +1,0 @@
-use Rattle.reader.proofs.Masks.{none_is}
-use Rattle.reader.proofs.levels.none_open.Goals as goal
-
-pub returns : goal.returns
-returns c = none_is c.args.mask c.requires
