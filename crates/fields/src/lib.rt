@@ -7,7 +7,7 @@ ghost use Rattle.recordbytes.specs.Spans.{span as span_of};
 ghost use Rattle.values.specs.Money.{signed as signed_of};
 ghost use Rattle.grammar.specs.Fields.{byte_at, is_one, signed_amount, old_amount, new_amount, digit_of, sequence, detail, reference, next, link, is_debit, amount, type, level, old_account, new_account, count, debit_sum, credit_sum, another};
 
-use recordbytes::{RecordBytes, number, span};
+use recordbytes::{RecordBytes, number_at, span};
 use values::signed;
 
 // The number of bytes of a bank's reference.
@@ -15,15 +15,6 @@ pub const REFERENCE_LENGTH: usize = 21;
 
 // The number of bytes of an account with its currency.
 pub const ACCOUNT_LENGTH: usize = 37;
-
-// The number in the digits at some positions, at most fifteen.
-fn number_at(bytes: &RecordBytes, first: usize, last: usize) -> u64
-    requires { last ≤ first + 14 }
-    ensures value { result ≡ value_of (span_of bytes.now first last) }
-    ensures bound { result < 2 ^ 55 }
-{
-    number(span(bytes, first, last))
-}
 
 // The thousandths that a sign byte and the digits at some positions mean.
 #[tactic(auto, using(recordbytes::proofs::Spanning::length_span, std::proofs::lemmas::Int::ints))]
