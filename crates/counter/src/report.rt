@@ -47,13 +47,7 @@ fn report_counts(rt: &HostRuntime, counts: Counts) -> io::Result<()> {
 }
 
 fn report_fault(rt: &HostRuntime, fault: FileFault) -> io::Result<()> {
-    let Refusal {
-        number,
-        record,
-        position,
-        cause,
-    } = Refusal::from(fault);
-    println!(rt; "   refused: {number} at record {record}, position {position}, cause {cause}")?;
+    println!(rt; "   refused: {}", Refusal::from(fault))?;
     println!(rt; "            {fault}")
 }
 

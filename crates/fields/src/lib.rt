@@ -16,14 +16,14 @@ pub const REFERENCE_LENGTH: usize = 21;
 // The number of bytes of an account with its currency.
 pub const ACCOUNT_LENGTH: usize = 37;
 
-// The thousandths that a sign byte and the digits at some positions mean.
+// The thousandths that the sign byte at a position and the fifteen digits behind it mean.
 #[tactic(auto, using(recordbytes::proofs::Spanning::length_span, std::proofs::lemmas::Int::ints))]
-fn signed_at(bytes: &RecordBytes, sign: u8, first: usize, last: usize) -> i64
-    requires { last ≤ first + 14 }
-    ensures value { result ≡ signed_of sign (value_of (span_of bytes.now first last)) }
+fn signed_at(bytes: &RecordBytes, sign: usize) -> i64
+    requires { (0 < sign) × (sign ≤ 128) }
+    ensures value { result ≡ signed_of (byte_at bytes.now sign) (value_of (span_of bytes.now (sign + 1) (sign + 15))) }
     ensures bound { unsigned_abs result < 2 ^ 55 }
 {
-    signed(sign, span(bytes, first, last))
+    signed(bytes[sign - 1], span(bytes, sign + 1, sign + 15))
 }
 
 fn digit_of(byte: u8) -> u64
@@ -85,7 +85,7 @@ pub fn signed_amount(bytes: &RecordBytes) -> i64
     ensures value { result ≡ signed_amount bytes.now }
     ensures bound { unsigned_abs result < 2 ^ 55 }
 {
-    signed_at(bytes, bytes[31], 33, 47)
+    signed_at(bytes, 32)
 }
 
 // The type, the first digit of the transaction code.
@@ -137,7 +137,7 @@ pub fn old_amount(bytes: &RecordBytes) -> i64
     ensures value { result ≡ old_amount bytes.now }
     ensures bound { unsigned_abs result < 2 ^ 55 }
 {
-    signed_at(bytes, bytes[42], 44, 58)
+    signed_at(bytes, 43)
 }
 
 pub fn new_account(bytes: &RecordBytes) -> &[u8; ACCOUNT_LENGTH]
@@ -149,5 +149,5 @@ pub fn new_account(bytes: &RecordBytes) -> &[u8; ACCOUNT_LENGTH]
 pub fn new_amount(bytes: &RecordBytes) -> i64
     ensures { result ≡ new_amount bytes.now }
 {
-    signed_at(bytes, bytes[41], 43, 57)
+    signed_at(bytes, 42)
 }

@@ -3,6 +3,9 @@ ghost use Rattle.std.specs.Prelude.{◌≡◌};
 ghost use Rattle.grammar.specs.declared.faults.StatementFault.TheVariants.{Record};
 ghost use Rattle.grammar.specs.declared.faults.FileFault.TheVariants.{Source, Statement};
 
+use crate::positions::{
+    ACCOUNT, AMOUNT, COUNT, CREDIT_SUM, DEBIT_SUM, DETAIL, LEVEL, REFERENCE, SEQUENCE, TYPE,
+};
 use source::Damage;
 use std::error::Error;
 use std::fmt;
@@ -96,17 +99,17 @@ impl fmt::Display for StatementFault {
         let text = match self {
             StatementFault::Record(record) => return record.fmt(f),
             StatementFault::Misplaced => UNKNOWN_OR_MISPLACED,
-            StatementFault::Number(3) => "the sequence number is wrong",
-            StatementFault::Number(5) => "the account is not that of the old balance",
-            StatementFault::Number(7) => "the detail number is wrong",
-            StatementFault::Number(11) => "the reference is not that of the movement",
-            StatementFault::Number(17) => "the count is not the number of counted records",
-            StatementFault::Number(54) => "the type may not stand here",
-            StatementFault::Number(125) => "the globalisation level may not stand here",
+            StatementFault::Number(SEQUENCE) => "the sequence number is wrong",
+            StatementFault::Number(ACCOUNT) => "the account is not that of the old balance",
+            StatementFault::Number(DETAIL) => "the detail number is wrong",
+            StatementFault::Number(REFERENCE) => "the reference is not that of the movement",
+            StatementFault::Number(COUNT) => "the count is not the number of counted records",
+            StatementFault::Number(TYPE) => "the type may not stand here",
+            StatementFault::Number(LEVEL) => "the globalisation level may not stand here",
             StatementFault::Number(_) => "the next and link codes are wrong",
-            StatementFault::Money(23) => "the debit sum is not that of the main movements",
-            StatementFault::Money(33) => "with this amount a sum passes 999,999,999,999.999",
-            StatementFault::Money(38) => "the credit sum is not that of the main movements",
+            StatementFault::Money(DEBIT_SUM) => "the debit sum is not that of the main movements",
+            StatementFault::Money(AMOUNT) => "with this amount a sum passes 999,999,999,999.999",
+            StatementFault::Money(CREDIT_SUM) => "the credit sum is not that of the main movements",
             StatementFault::Money(_) =>
                 "the new balance is not the old one plus the main movements",
         };

@@ -3,6 +3,7 @@
 
 mod expect;
 mod faults;
+pub mod positions;
 mod refusals;
 
 pub use expect::Expect;

@@ -12,6 +12,9 @@ use fields::{
 };
 use grammar::Expect;
 use grammar::StatementFault::{self, Misplaced, Money, Number};
+use grammar::positions::{
+    ACCOUNT, CODES, COUNT, CREDIT_SUM, DEBIT_SUM, DETAIL, NEW_BALANCE, SEQUENCE,
+};
 use order::{behind_closing, behind_trailer, is_first_communication, is_opened};
 
 impl Taking<'_> {
@@ -21,9 +24,12 @@ impl Taking<'_> {
         let bytes = self.bytes;
         let sums = &self.standing.sums;
         rule(self.standing.numbers.levels.none_open(), Misplaced)?;
-        rule(*new_account(bytes) == sums.account, Number(5))?;
-        rule(new_amount(bytes) == sums.balance, Money(43))?;
-        rule(!is_opened(self.standing.expect) || link(bytes), Number(128))?;
+        rule(*new_account(bytes) == sums.account, Number(ACCOUNT))?;
+        rule(new_amount(bytes) == sums.balance, Money(NEW_BALANCE))?;
+        rule(
+            !is_opened(self.standing.expect) || link(bytes),
+            Number(CODES),
+        )?;
         Ok(self.behind_counted(behind_closing(link(bytes), Expect::FirstCommunication)))
     }
 
@@ -45,8 +51,8 @@ impl Taking<'_> {
     fn take_first_communication(&self) -> Result<Standing, StatementFault>
         ensures { meant result ≡ under (first_communication_rules self.now.bytes.now) (after_communication (place_of self.now.standing.now) self.now.bytes.now) }
     {
-        rule(sequence(self.bytes) == 1, Number(3))?;
-        rule(detail(self.bytes) == 0, Number(7))?;
+        rule(sequence(self.bytes) == 1, Number(SEQUENCE))?;
+        rule(detail(self.bytes) == 0, Number(DETAIL))?;
         Ok(self.behind_communication())
     }
 
@@ -57,10 +63,10 @@ impl Taking<'_> {
         let (number, part) = (sequence(self.bytes), detail(self.bytes));
         let current = number == numbers.sequence;
         let succeeding = succeeds(number, numbers.sequence);
-        rule(current || succeeding, Number(3))?;
+        rule(current || succeeding, Number(SEQUENCE))?;
         rule(
             current && succeeds(part, numbers.detail) || succeeding && part == 0,
-            Number(7),
+            Number(DETAIL),
         )?;
         Ok(self.behind_communication())
     }
@@ -80,9 +86,9 @@ impl Taking<'_> {
     {
         let bytes = self.bytes;
         let sums = &self.standing.sums;
-        rule(count(bytes) == self.standing.count, Number(17))?;
-        rule(debit_sum(bytes) == sums.debits, Money(23))?;
-        rule(credit_sum(bytes) == sums.credits, Money(38))?;
+        rule(count(bytes) == self.standing.count, Number(COUNT))?;
+        rule(debit_sum(bytes) == sums.debits, Money(DEBIT_SUM))?;
+        rule(credit_sum(bytes) == sums.credits, Money(CREDIT_SUM))?;
         Ok(Standing {
             expect: behind_trailer(another(bytes)),
             ..*self.standing

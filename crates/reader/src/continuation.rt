@@ -10,6 +10,7 @@ use crate::taking::{Taking, rule};
 use fields::{detail, link, next, reference, sequence};
 use grammar::Expect;
 use grammar::StatementFault::{self, Number};
+use grammar::positions::{CODES, DETAIL, REFERENCE, SEQUENCE};
 use order::behind;
 
 impl Taking<'_> {
@@ -30,9 +31,9 @@ impl Taking<'_> {
     {
         let bytes = self.bytes;
         let numbers = &self.standing.numbers;
-        rule(sequence(bytes) == numbers.sequence, Number(3))?;
-        rule(detail(bytes) == numbers.detail, Number(7))?;
-        rule(codes_apart(bytes), Number(128))?;
+        rule(sequence(bytes) == numbers.sequence, Number(SEQUENCE))?;
+        rule(detail(bytes) == numbers.detail, Number(DETAIL))?;
+        rule(codes_apart(bytes), Number(CODES))?;
         Ok(self.behind_counted(behind(next(bytes), link(bytes), continued)))
     }
 
@@ -57,10 +58,10 @@ impl Taking<'_> {
     {
         let bytes = self.bytes;
         let numbers = &self.standing.numbers;
-        rule(sequence(bytes) == numbers.sequence, Number(3))?;
-        rule(succeeds(detail(bytes), numbers.detail), Number(7))?;
-        rule(*reference(bytes) == numbers.reference, Number(11))?;
-        rule(codes_apart(bytes), Number(128))?;
+        rule(sequence(bytes) == numbers.sequence, Number(SEQUENCE))?;
+        rule(succeeds(detail(bytes), numbers.detail), Number(DETAIL))?;
+        rule(*reference(bytes) == numbers.reference, Number(REFERENCE))?;
+        rule(codes_apart(bytes), Number(CODES))?;
         Ok(self.behind_information())
     }
 }

@@ -13,6 +13,7 @@ use fields::{
 };
 use grammar::Expect;
 use grammar::StatementFault::{self, Money, Number};
+use grammar::positions::{AMOUNT, CODES, DETAIL, LEVEL, SEQUENCE, TYPE};
 use order::{behind, is_opened};
 use recordbytes::RecordBytes;
 
@@ -92,13 +93,13 @@ impl Taking<'_> {
         let numbers = &self.standing.numbers;
         rule(
             succeeds(sequence(bytes), numbers.sequence) && numbers.levels.none_open(),
-            Number(3),
+            Number(SEQUENCE),
         )?;
-        rule(detail(bytes) == 0, Number(7))?;
-        let sums = self.booked().ok_or(Money(33))?;
-        rule(type_digit(bytes) <= 3, Number(54))?;
-        rule(type_digit(bytes) != 0 || level(bytes) == 0, Number(125))?;
-        rule(codes_apart(bytes), Number(128))?;
+        rule(detail(bytes) == 0, Number(DETAIL))?;
+        let sums = self.booked().ok_or(Money(AMOUNT))?;
+        rule(type_digit(bytes) <= 3, Number(TYPE))?;
+        rule(type_digit(bytes) != 0 || level(bytes) == 0, Number(LEVEL))?;
+        rule(codes_apart(bytes), Number(CODES))?;
         let numbers = Numbers {
             sequence: sequence(bytes),
             detail: detail(bytes),
@@ -115,14 +116,14 @@ impl Taking<'_> {
     {
         let bytes = self.bytes;
         let numbers = &self.standing.numbers;
-        rule(numbers.main_type != 0, Number(3))?;
-        rule(succeeds(detail(bytes), numbers.detail), Number(7))?;
+        rule(numbers.main_type != 0, Number(SEQUENCE))?;
+        rule(succeeds(detail(bytes), numbers.detail), Number(DETAIL))?;
         rule(
             type_fits(numbers.main_type, numbers.seven, type_digit(bytes)),
-            Number(54),
+            Number(TYPE),
         )?;
-        let levels = numbers.levels.behind(bytes).ok_or(Number(125))?;
-        rule(codes_apart(bytes), Number(128))?;
+        let levels = numbers.levels.behind(bytes).ok_or(Number(LEVEL))?;
+        rule(codes_apart(bytes), Number(CODES))?;
         let numbers = Numbers {
             detail: detail(bytes),
             reference: *reference(bytes),

@@ -6,6 +6,7 @@ ghost use Rattle.grammar.specs.Faults.{statement_number, statement_position};
 ghost use Rattle.refusals.specs.Refusals.{IsRefusalOf};
 
 use grammar::{FileFault, Located, RecordFault, SourceFault, StatementFault};
+use std::fmt;
 
 #[derive(Clone, Copy, PartialEq, Eq, Debug, Default)]
 pub struct Refusal {
@@ -66,5 +67,20 @@ impl From<FileFault> for Refusal {
                 ..Refusal::default()
             },
         }
+    }
+}
+
+impl fmt::Display for Refusal {
+    fn fmt<W: fmt::Write>(&self, f: &mut fmt::Formatter<W>) -> fmt::Result {
+        let Refusal {
+            number,
+            record,
+            position,
+            cause,
+        } = *self;
+        write!(
+            f,
+            "{number} at record {record}, position {position}, cause {cause}"
+        )
     }
 }
