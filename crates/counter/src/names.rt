@@ -1,6 +1,5 @@
 // What is called how in the output.
 use layout::Kind;
-use source::{Damage, TOO_LONG, TOO_SHORT};
 
 pub const KINDS: [Kind; 11] = [
     Kind::Header,
@@ -29,14 +28,6 @@ pub fn kind_name(kind: Kind) -> &'static str {
         Kind::NewBalance => "new balance (8)",
         Kind::FreeCommunication => "free communication (4)",
         Kind::Trailer => "trailer (9)",
-    }
-}
-
-pub fn damage_name(damage: Damage) -> &'static str {
-    match damage.cause {
-        TOO_SHORT => "shorter than a record",
-        TOO_LONG => "longer than a record",
-        _ => "damaged",
     }
 }
 

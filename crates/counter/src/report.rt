@@ -1,11 +1,11 @@
 // What is printed of a file.
 use crate::arguments::Cutting;
-use crate::names::{KINDS, damage_name, fault_name, kind_name};
+use crate::names::{KINDS, fault_name, kind_name};
 use grammar::{Counts, FileFault};
 use reader::check;
 use recordbytes::RECORD_LENGTH;
 use refusals::{fault_cause, fault_number, fault_position, fault_record};
-use source::{Fetched, Lines, Packed, Source};
+use source::{Lines, NoRecord, Packed, Source};
 use std::io;
 use survey::{Sort, Survey, survey_of};
 
@@ -75,13 +75,11 @@ fn report_survey(rt: &HostRuntime, survey: Survey) -> io::Result<()> {
 
 fn report_damages<S: Source>(rt: &HostRuntime, source: &mut S) -> io::Result<()> {
     let mut bytes = [0; RECORD_LENGTH];
-    for i in 0..source.count() {
-        let slot = i + 1;
-        if let Fetched::Damaged(damage) = source.fetch(slot, &mut bytes) {
+    for slot in 1..=source.count() {
+        if let Err(NoRecord::Damaged(damage)) = source.fetch(slot, &mut bytes) {
             println!(rt;
-                "         slot {slot} is damaged: cause {}, {}",
-                damage.cause,
-                damage_name(damage)
+                "         slot {slot} is damaged: cause {}, {damage}",
+                damage.cause
             )?;
         }
     }

@@ -4,7 +4,7 @@ ghost use Rattle.layout.specs.Kinds.{by_article, kind_of};
 
 use recordbytes::RECORD_LENGTH;
 
-#[derive(Clone, Copy)]
+#[derive(Clone, Copy, PartialEq, Eq, Debug)]
 pub enum Kind {
     // 0
     Header,
