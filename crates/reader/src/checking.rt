@@ -4,7 +4,7 @@ ghost use Rattle.source.specs.Slots.{slot_at};
 ghost use Rattle.grammar.specs.Complaints.{RefusalsAreLeast};
 ghost use Rattle.grammar.specs.Steps.{checked};
 ghost use Rattle.grammar.specs.Theorems.{Checks};
-ghost use Rattle.reader.specs.Reads.{FetchedAs, placed};
+ghost use Rattle.reader.specs.Reads.{FetchedAs};
 
 use crate::state::State;
 use grammar::{Counts, FileFault, Located, SourceFault};
