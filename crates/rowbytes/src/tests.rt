@@ -38,8 +38,8 @@ fn a_movement_is_read_back(rt: HostRuntime) -> Result<(), Fail> {
         return Err(Fail::new("the fields are those of a row"));
     };
     let bytes = row_bytes(&row);
-    assert!(rt; bytes[0..17] == *b"D1000000001250500");
-    assert!(rt; bytes[192..256] == [0; 64]);
+    assert!(rt; &bytes[0..17] == b"D1000000001250500".as_slice());
+    assert!(rt; &bytes[192..256] == [0; 64].as_slice());
     assert!(rt; read_row(&bytes).is_some());
     assert!(rt; !is_statement_of(&bytes, &[b'7'; 38]));
     Ok(())
@@ -51,8 +51,8 @@ fn a_statement_is_read_back(rt: HostRuntime) -> Result<(), Fail> {
         return Err(Fail::new("the fields are those of a row"));
     };
     let bytes = row_bytes(&row);
-    assert!(rt; bytes[39..71] == *b"00000000000000001000000001250500");
-    assert!(rt; bytes[83..89] == *b"000012");
+    assert!(rt; &bytes[39..71] == b"00000000000000001000000001250500".as_slice());
+    assert!(rt; &bytes[83..89] == b"000012".as_slice());
     assert!(rt; read_row(&bytes).is_some());
     assert!(rt; is_statement_of(&bytes, &[b'7'; 38]));
     assert!(rt; !is_statement_of(&bytes, &[b'8'; 38]));

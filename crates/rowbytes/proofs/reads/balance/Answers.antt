@@ -1,4 +1,4 @@
-use Rattle.std.proofs.Common.{drop, ◌∙◌, arith, w64, SFits, rules}
+use Rattle.std.proofs.Common.{◌∙◌, arith, w64, SFits, rules}
 use Rattle.std.proofs.lemmas.Int.{to_z-of_z}
 use Rattle.std.proofs.lemmas.List.{length-drop}
 use Rattle.rowbytes.proofs.Reading.{balance_is}
