@@ -1,4 +1,3 @@
-pub mod Fetches
 pub mod Numbered
 mod Pieces
 mod FirstLine
