@@ -32,11 +32,13 @@ fn a_statement() -> Fields {
     })
 }
 
+fn made(fields: Fields) -> Result<Row, Fail> {
+    Row::new(fields).ok_or_else(|| Fail::new("the fields are those of a row"))
+}
+
 #[test]
 fn a_movement_is_read_back(rt: HostRuntime) -> Result<(), Fail> {
-    let Some(row) = Row::new(a_detail()) else {
-        return Err(Fail::new("the fields are those of a row"));
-    };
+    let row = made(a_detail())?;
     let bytes = row_bytes(&row);
     assert!(rt; &bytes[0..17] == b"D1000000001250500".as_slice());
     assert!(rt; &bytes[192..256] == [0; 64].as_slice());
@@ -47,9 +49,7 @@ fn a_movement_is_read_back(rt: HostRuntime) -> Result<(), Fail> {
 
 #[test]
 fn a_statement_is_read_back(rt: HostRuntime) -> Result<(), Fail> {
-    let Some(row) = Row::new(a_statement()) else {
-        return Err(Fail::new("the fields are those of a row"));
-    };
+    let row = made(a_statement())?;
     let bytes = row_bytes(&row);
     assert!(rt; &bytes[39..71] == b"00000000000000001000000001250500".as_slice());
     assert!(rt; &bytes[83..89] == b"000012".as_slice());
@@ -61,9 +61,7 @@ fn a_statement_is_read_back(rt: HostRuntime) -> Result<(), Fail> {
 
 #[test]
 fn damaged_bytes_are_refused(rt: HostRuntime) -> Result<(), Fail> {
-    let Some(row) = Row::new(a_statement()) else {
-        return Err(Fail::new("the fields are those of a row"));
-    };
+    let row = made(a_statement())?;
     let mut bytes = row_bytes(&row);
     assert!(rt; read_row(&bytes[0..255]).is_none());
     bytes[255] = b'0';

@@ -12,7 +12,7 @@ use recordbytes::write_digits;
 use rows::{Fields, MovementFields, Rank, Row, StatementFields};
 use values::Money;
 
-// The first byte of a movement.
+// The first byte of a movement. No From says it, since the rank is of another crate and the byte of this one.
 fn letter(rank: Rank) -> u8
     ensures { result ≡ letter_of rank }
 {
@@ -37,7 +37,7 @@ fn six_digits(number: u32) -> [u8; 6]
     ensures { result ≡ digits 6 number }
 {
     let mut out = [0; 6];
-    write_digits(&mut out, number as u64);
+    write_digits(&mut out, u64::from(number));
     out
 }
 

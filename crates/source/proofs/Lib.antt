@@ -2,4 +2,3 @@ pub mod Numbered
 mod Pieces
 mod FirstLine
 mod LineCount
-mod Cursor
