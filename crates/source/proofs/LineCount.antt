@@ -4,7 +4,7 @@ use Rattle.std.specs.Borrow.{Bor}
 use Rattle.std.specs.Bool.{IsTrue}
 use Rattle.std.specs.Option.{MatchOption, option_copied}
 use Rattle.std.proofs.lemmas.List.Sums.{sum_by-cons}
-use Rattle.std.proofs.lemmas.Bool.{cases_Bool, cases_eq, eq-eqb, ne_eqb, and_right, cond-true, cond-false}
+use Rattle.std.proofs.lemmas.Bool.{cases_Bool, and_right, cond-true, cond-false}
 use Rattle.source.specs.Lining.{is_feed, feed_first, in_front, lines}
 use Rattle.source.proofs.FirstLine.{lines_feed, lines_return, lines_text}
 
@@ -21,24 +21,19 @@ length_in_front x (line ∷ rest) some = refl
 length_more : (x : ℕ) (xs : List ℕ) → 0 < length (lines xs) → length (lines (x ∷ xs)) ≡ one_for x + length (lines xs)
 length_more x xs some =
     ⊎_elim
-    (λ yes.
-    let one : one_for x ≡ 1 = cond-true {A = ℕ} (is_feed x) 1 0 (eq-eqb x 10 yes) in
-    ap length (lines_feed x xs yes) ∙ omega arith)
+    (λ feed. let one : one_for x ≡ 1 = cond-true {A = ℕ} (is_feed x) 1 0 feed in ap length (lines_feed x xs feed) ∙ omega arith)
     (λ no_feed.
-    let none : one_for x ≡ 0 = cond-false {A = ℕ} (is_feed x) 1 0 (ne_eqb x 10 no_feed) in
+    let none : one_for x ≡ 0 = cond-false {A = ℕ} (is_feed x) 1 0 no_feed in
     ⊎_elim
     (λ ending. ap length (lines_return x xs no_feed ending) ∙ omega arith)
     (λ text. ap length (lines_text x xs no_feed text) ∙ (length_in_front x (lines xs) some ∙ omega arith))
     (cases_Bool (eqb x 13 && feed_first xs)))
-    (cases_eq x 10)
+    (cases_Bool (is_feed x))
 
 -- one byte is a line
 length_one : (x : ℕ) → length (lines (x ∷ [])) ≡ 1
 length_one x =
-    ⊎_elim
-    (λ yes. ap length (lines_feed x [] yes))
-    (λ no_feed. ap length (lines_text x [] no_feed (and_right (eqb x 13) false refl)))
-    (cases_eq x 10)
+    ⊎_elim (λ feed. ap length (lines_feed x [] feed)) (λ no_feed. ap length (lines_text x [] no_feed (and_right (eqb x 13) false refl))) (cases_Bool (is_feed x))
 
 -- where there are bytes, there is a line
 some_line : (x : ℕ) (xs : List ℕ) → 0 < length (lines (x ∷ xs))
