@@ -10,6 +10,19 @@ pub enum Cutting {
     Lines,
 }
 
+const LINE_FEED: u8 = 10;
+
+impl Cutting {
+    // Whether the slots of a file are its lines.
+    pub fn is_in_lines(self, file: &[u8]) -> bool {
+        match self {
+            Cutting::Told => file.contains(&LINE_FEED),
+            Cutting::Packed => false,
+            Cutting::Lines => true,
+        }
+    }
+}
+
 // What a word behind the command is.
 #[derive(Clone, Copy, PartialEq, Eq, Debug)]
 pub enum Word {

@@ -2,7 +2,6 @@
 #![tactic(auto)]
 
 mod arguments;
-mod names;
 mod report;
 
 use anyhow::anyhow;

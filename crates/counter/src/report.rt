@@ -1,23 +1,16 @@
 // What is printed of a file.
 use crate::arguments::Cutting;
-use crate::names::{KINDS, damage_name, kind_name};
 use grammar::{Counts, FileFault};
+use layout::KINDS;
 use reader::check;
 use recordbytes::RECORD_LENGTH;
 use refusals::Refusal;
-use source::{Fetched, Lines, Packed, Source};
+use source::{Lines, NoRecord, Packed, Source};
 use std::io;
 use survey::{Sort, Survey, survey_of};
 
-const LINE_FEED: u8 = 10;
-
 pub fn report_file(rt: &HostRuntime, path: &str, file: &[u8], cutting: Cutting) -> io::Result<()> {
-    let in_lines = match cutting {
-        Cutting::Told => file.contains(&LINE_FEED),
-        Cutting::Packed => false,
-        Cutting::Lines => true,
-    };
-    if in_lines {
+    if cutting.is_in_lines(file) {
         report_source(rt, path, "in lines", &mut Lines::new(file))
     } else {
         report_source(rt, path, "packed", &mut Packed::new(file))
@@ -55,7 +48,7 @@ fn report_survey(rt: &HostRuntime, survey: Survey) -> io::Result<()> {
     for kind in KINDS {
         let records = survey.count(Sort::Record(kind));
         if records > 0 {
-            println!(rt; "{:>7}  {}", records, kind_name(kind))?;
+            println!(rt; "{records:>7}  {kind}")?;
         }
     }
     let unknown = survey.count(Sort::Unknown);
@@ -71,13 +64,11 @@ fn report_survey(rt: &HostRuntime, survey: Survey) -> io::Result<()> {
 
 fn report_damages<S: Source>(rt: &HostRuntime, source: &mut S) -> io::Result<()> {
     let mut bytes = [0; RECORD_LENGTH];
-    for i in 0..source.count() {
-        let slot = i + 1;
-        if let Fetched::Damaged(damage) = source.fetch(slot, &mut bytes) {
+    for slot in 1..=source.count() {
+        if let Err(NoRecord::Damaged(damage)) = source.fetch(slot, &mut bytes) {
             println!(rt;
-                "         slot {slot} is damaged: cause {}, {}",
-                damage.cause,
-                damage_name(damage)
+                "         slot {slot} is damaged: cause {}, {damage}",
+                damage.cause
             )?;
         }
     }

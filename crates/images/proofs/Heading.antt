@@ -1,42 +1,22 @@
--- Numbers written one behind the other, four bytes each, into 32 bytes.
-use Rattle.std.proofs.Common.{◌≡◌, ℕ, ◌+◌, ◌-◌, ◌*◌, ◌<◌, ◌≤◌, List, [], ◌∷◌, ◌++◌, map, length, get_or, take, replicate, sym, refl, ap, ◌∙◌, arith}
-use borrow.Rule.Slice.PartMut.{put_mid}
-use Rattle.std.proofs.lemmas.List.{append-nil, length-append, length-replicate, length-take-le, map_more, take_all}
+-- Numbers written one behind the other.
+use Rattle.std.proofs.Common.{◌≡◌, ℕ, List, [], ◌∷◌, ◌++◌, map, length, get_or, sym, refl, ap, ◌∙◌, arith}
+use denote.Param.Members.{Mut}
+use Rattle.std.specs.Array.{IsMapOf}
+use Rattle.std.specs.Fn.{Called}
+use Rattle.std.specs.List.{flat_map}
+use Rattle.std.proofs.lemmas.List.{length-map, get_or-map, same_lists}
 use Rattle.recordbytes.specs.Joins.{joined}
-use Rattle.recordbytes.proofs.Joining.{joined_push, put_behind}
-use Rattle.images.specs.Headers.{four_bytes}
 
-abbrev written : List ℕ → List ℕ
-written numbers = joined (map four_bytes numbers)
+-- what calls at each number gave is the list of what each gives
+pub mapped : {F : Type 0} (g : Mut F (ℕ × Unit {0}) (List ℕ)) (f : F) (v : ℕ → List ℕ) (xs : List ℕ) (ys : List (List ℕ)) (n : ℕ) → IsMapOf g f xs ys n → length xs ≡ n
+    → ((p q : F) (x : ℕ) (y : List ℕ) → Called g p (x, tt) y q → y ≡ v x) → ys ≡ map v xs
+mapped g f v xs ys n calls long gives =
+    same_lists ys (map v xs) (calls.long ∙ (sym long ∙ sym (length-map xs v)))
+    (λ k d inside.
+    let call = calls.at k 0 d (omega (arith, inside, calls.long)) in
+    gives call.0 call.1 (get_or xs k 0) (get_or ys k d) call.2 ∙ sym (get_or-map v xs k 0 d (omega (arith, inside, calls.long, long))))
 
-written_long : (numbers : List ℕ) → length (written numbers) ≡ 4 * length numbers
-written_long [] = refl
-written_long (n ∷ numbers) = let h = written_long numbers in omega arith
-
-module _ (numbers : List ℕ) (eight : length numbers ≡ 8) (i : ℕ) (out : List ℕ) where
-  -- the first i numbers are written, and zeros stand behind them
-  abbrev pub SoFar : Type 0
-  SoFar = out ≡ written (take i numbers) ++ replicate (32 - 4 * i) 0
-
-  front_long : i ≤ 8 → length (written (take i numbers)) ≡ 4 * i
-  front_long within = written_long (take i numbers) ∙ ap (λ k. 4 * k) (length-take-le i numbers (omega arith))
-
-  pub so_far_long : i ≤ 8 → SoFar → length out ≡ 32
-  so_far_long within so_far =
-      ap length so_far ∙ (length-append (written (take i numbers)) (replicate (32 - 4 * i) 0) ∙ (let f = front_long within in let z = length-replicate {A = ℕ} (32 - 4 * i) 0 in omega arith))
-
-  pub so_far_more : i < 8 → (new : List ℕ) → new ≡ four_bytes (get_or numbers i 0) → SoFar → put_mid (4 * i) (4 * i + 4 - 4 * i) out new ≡ written (take (i + 1) numbers) ++ replicate (32 - 4 * (i + 1)) 0
-  so_far_more inside new e so_far =
-      let front = written (take i numbers) in
-      let part = four_bytes (get_or numbers i 0) in
-      let f = front_long (omega arith) in
-      let more : written (take (i + 1) numbers) ≡ front ++ part = ap joined (map_more four_bytes numbers i 0 (omega arith)) ∙ joined_push (map four_bytes (take i numbers)) part in
-      ap (put_mid (4 * i) (4 * i + 4 - 4 * i) out) e
-      ∙ (ap (λ t. put_mid (4 * i) (4 * i + 4 - 4 * i) t part) so_far
-      ∙ (ap (λ k. put_mid k (k + 4 - k) (front ++ replicate (32 - 4 * i) 0) part) (sym f)
-      ∙ (put_behind front part (replicate (32 - 4 * i) 0) (32 - 4 * i) refl
-      ∙ (ap (λ k. (front ++ part) ++ replicate k 0) (omega arith) ∙ ap (λ t. t ++ replicate (32 - 4 * (i + 1)) 0) (sym more)))))
-
-  pub so_far_all : i ≡ 8 → SoFar → out ≡ written numbers
-  so_far_all end so_far =
-      so_far ∙ (ap (λ k. written (take k numbers) ++ replicate (32 - 4 * k) 0) end ∙ (append-nil (written (take 8 numbers)) ∙ ap written (take_all 8 numbers (omega arith))))
+-- parts laid flat are joined
+pub flattened : (parts : List (List ℕ)) → flat_map (λ part. part) parts ≡ joined parts
+flattened [] = refl
+flattened (part ∷ parts) = ap (λ rest. part ++ rest) (flattened parts)

@@ -26,7 +26,7 @@ fn header_numbers(counts: &Counts) -> [u32; NUMBERS]
 {
     let kept = counts.kept();
     let used = counts.used();
-    let open = if counts.is_open() { 1 } else { 0 };
+    let open = u32::from(counts.is_open());
     [
         counts.capacity(),
         kept,
@@ -43,11 +43,8 @@ fn header_numbers(counts: &Counts) -> [u32; NUMBERS]
 fn to_bytes(numbers: &[u32; NUMBERS]) -> [u8; HEADER_LENGTH]
     ensures { result ≡ joined (map four_bytes numbers.now) }
 {
-    let mut out = [0; HEADER_LENGTH];
-    for i in 0..NUMBERS {
-        out[4 * i..4 * i + 4].copy_from_slice(&numbers[i].to_le_bytes());
-    }
-    out
+    let quadruples = numbers.map(u32::to_le_bytes);
+    *quadruples.as_flattened().as_array().unwrap()
 }
 
 // The header of a book with these numbers.

@@ -31,6 +31,23 @@ pub enum Kind {
     Trailer,
 }
 
+// The number of kinds.
+pub const KIND_COUNT: usize = 11;
+
+pub const KINDS: [Kind; KIND_COUNT] = [
+    Kind::Header,
+    Kind::OldBalance,
+    Kind::Movement,
+    Kind::MovementSecond,
+    Kind::Counterparty,
+    Kind::Information,
+    Kind::InformationSecond,
+    Kind::InformationThird,
+    Kind::NewBalance,
+    Kind::FreeCommunication,
+    Kind::Trailer,
+];
+
 impl fmt::Display for Kind {
     fn fmt<W: fmt::Write>(&self, f: &mut fmt::Formatter<W>) -> fmt::Result {
         f.write_str(match self {

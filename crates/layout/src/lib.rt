@@ -7,6 +7,6 @@ mod misformed;
 mod tables;
 
 pub use form::{Form, holds};
-pub use kind::{Kind, kind_of};
+pub use kind::{KIND_COUNT, KINDS, Kind, kind_of};
 pub use misformed::{first_misformed, first_misformed_of};
 pub use tables::{Field, layouts_tile, table};

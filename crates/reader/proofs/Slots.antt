@@ -1,5 +1,6 @@
 -- The loop over the slots: what is left of the list gives the answer.
-use Rattle.std.proofs.Common.{◌≡◌, ℕ, ◌+◌, ◌-◌, ◌<◌, ◌≤◌, ltb, List, [], ◌∷◌, length, get_or, drop, Some, Ok, Err, Result, sym, ap, ◌∙◌, subst, arith}
+use Rattle.std.proofs.Common.{◌≡◌, ℕ, ◌+◌, ◌-◌, ◌<◌, ◌≤◌, true, ltb, List, [], ◌∷◌, length, get_or, drop, Some, Ok, Err, Result, is_ok, sym, ap, ◌∙◌, subst, arith}
+use Rattle.std.specs.Result.{MatchResult}
 use Rattle.std.proofs.lemmas.List.{at_drop_more, at_drop_all}
 use Rattle.std.proofs.lemmas.Bool.{cond-true, cond-false, lt-ltb, le-ltb}
 use Rattle.source.specs.Slots.{Slot, whole, damaged, slot_at}
@@ -12,7 +13,7 @@ use Rattle.grammar.specs.declared.faults.FileFault.TheVariants.{Source, Statemen
 use Rattle.grammar.specs.Places.{Place, beginning}
 use Rattle.grammar.specs.Steps.{step, run, onward, ended, most_slots, checked}
 use Rattle.reader.specs.Means.{Stepped}
-use Rattle.reader.specs.Reads.{FetchedAs, placed}
+use Rattle.reader.specs.Reads.{FetchedAs}
 
 -- ONE SLOT
 
@@ -24,51 +25,59 @@ read_whole : (x : Slot) (n : ℕ) (bytes : List ℕ) (u : Unit {0}) → FetchedA
 read_whole (whole b) n bytes u h = ap whole (sym h.1)
 read_whole (damaged d) n bytes u h = let z : ◌≡◌ {A = ℕ} 0 1 = cc in absurd (omega arith)
 
-stepped_ok : (q : Result Place StatementFault) (p t : Place) (r : Result (Unit {0}) StatementFault) (n : ℕ) (u : Unit {0}) → Stepped p q t r → placed n r ≡ Ok u → q ≡ Ok t
-stepped_ok (Ok x) p t r n u h e = ap Ok (sym h.1)
-stepped_ok (Err f) p t r n u h e = let k : placed n r ≡ placed n (Err f) = ap (placed n) h.0 in let z : ◌≡◌ {A = ℕ} 0 1 = cc in absurd (omega arith)
+stepped_ok : (q : Result Place StatementFault) (p t : Place) (r : Result (Unit {0}) StatementFault) → Stepped p q t r → true ≡ is_ok r → q ≡ Ok t
+stepped_ok (Ok x) p t r h taken = ap Ok (sym h.1)
+stepped_ok (Err f) p t r h taken = let k = ap is_ok h.0 in let z : ◌≡◌ {A = ℕ} 0 1 = cc in absurd (omega arith)
 
-stepped_err : (q : Result Place StatementFault) (p t : Place) (r : Result (Unit {0}) StatementFault) (n : ℕ) (go : Place → Result Place FileFault) (l : Located) → Stepped p q t r → placed n r ≡ Err l → onward n go q ≡ Err (Statement l)
-stepped_err (Ok x) p t r n go l h e = let k : placed n r ≡ placed n (Ok tt) = ap (placed n) h.0 in let z : ◌≡◌ {A = ℕ} 0 1 = cc in absurd (omega arith)
-stepped_err (Err f) p t r n go l h e = let k : placed n r ≡ placed n (Err f) = ap (placed n) h.0 in cc
+-- a refusal at slot n, to which its slot was put
+abbrev pub Located_at : ℕ → Result (Unit {0}) StatementFault → Located → Type 0
+Located_at n r l = MatchResult r (λ u. ◌≡◌ {A = Result (Unit {0}) Located} (Err l) (Ok u)) (λ f. l ≡ record { slot = n; fault = f })
 
--- THE TURN AT SLOT i + 1
+stepped_err : (q : Result Place StatementFault) (p t : Place) (r : Result (Unit {0}) StatementFault) (n : ℕ) (go : Place → Result Place FileFault) (l : Located) → Stepped p q t r → Located_at n r l → onward n go q ≡ Err (Statement l)
+stepped_err q p t (Ok u) n go l h e = let z : ◌≡◌ {A = ℕ} 0 1 = cc in absurd (omega arith)
+stepped_err (Ok x) p t (Err f) n go l h e = let k = h.0 in let z : ◌≡◌ {A = ℕ} 0 1 = cc in absurd (omega arith)
+stepped_err (Err g) p t (Err f) n go l h e = let k = h.0 in cc
+
+-- THE WHOLE
+
+checked_is : (xs : List Slot) (q : Result Place FileFault) → length xs ≤ most_slots → q ≡ run beginning 1 xs → checked xs ≡ ended (length xs + 1) q
+unfolding checked
+checked_is xs q few e = cond-false (ltb most_slots (length xs)) (Err TooManySlots) (ended (length xs + 1) (run beginning 1 xs)) (le-ltb most_slots (length xs) few) ∙ ap (ended (length xs + 1)) (sym e)
+
+pub checked_many : (xs : List Slot) → most_slots < length xs → checked xs ≡ Err TooManySlots
+unfolding checked
+checked_many xs many = cond-true (ltb most_slots (length xs)) (Err TooManySlots) (ended (length xs + 1) (run beginning 1 xs)) (lt-ltb most_slots (length xs) many)
+
+-- behind the last slot
+pub checked_end : (xs : List Slot) (n : ℕ) (p : Place) → length xs ≤ most_slots → length xs ≤ n → run p (n + 1) (drop n xs) ≡ run beginning 1 xs → checked xs ≡ ended (length xs + 1) (Ok p)
+checked_end xs n p few behind so_far = checked_is xs (Ok p) few (sym (at_drop_all (run p (n + 1)) xs n behind) ∙ so_far)
+
+-- THE TURN AT SLOT n
 
 no_slot : Slot
 no_slot = whole []
 
-module _ (xs : List Slot) (i : ℕ) (p : Place) (bytes : List ℕ) (inside : i < length xs) where
-  here : slot_at xs (i + 1) ≡ Some (get_or xs i no_slot)
-  here = present xs (i + 1) no_slot (omega arith) (omega arith) ∙ ap (λ k. Some (get_or xs k no_slot)) back
+-- the slots are as they were, and what is left of them gives the answer
+module _ (xs ys : List Slot) (n : ℕ) (p : Place) (bytes : List ℕ) (few : length xs ≤ most_slots) (same : ys ≡ xs) (positive : 0 < n) (within : n ≤ length xs) (so_far : run p n (drop (n - 1) xs) ≡ run beginning 1 xs) where
+  here : slot_at ys n ≡ Some (get_or xs (n - 1) no_slot)
+  here = ap (λ slots. slot_at slots n) same ∙ present xs n no_slot positive within
+
+  unrolled : run p n (get_or xs (n - 1) no_slot ∷ drop n xs) ≡ run beginning 1 xs
+  unrolled = sym (at_drop_more (run p n) xs (n - 1) no_slot (omega (arith, positive, within)) ∙ ap (λ k. run p n (get_or xs (n - 1) no_slot ∷ drop k xs)) next) ∙ so_far
     where
-      back : i + 1 - 1 ≡ i
-      back = omega arith
+      next : n - 1 + 1 ≡ n
+      next = omega (arith, positive)
 
-  unrolled : run p (i + 1) (drop i xs) ≡ run p (i + 1) (get_or xs i no_slot ∷ drop (i + 1) xs)
-  unrolled = at_drop_more (run p (i + 1)) xs i no_slot inside
+  pub turn_unread : (f : SourceFault) → FetchedAs n (slot_at ys n) bytes (Err f) → checked xs ≡ Err (Source f)
+  turn_unread f h = checked_is xs (Err (Source f)) few (sym (read_fails (get_or xs (n - 1) no_slot) p n (drop n xs) bytes f (subst (λ o. FetchedAs n o bytes (Err f)) here h)) ∙ unrolled)
 
-  pub turn_unread : (f : SourceFault) → FetchedAs (i + 1) (slot_at xs (i + 1)) bytes (Err f) → run p (i + 1) (drop i xs) ≡ Err (Source f)
-  turn_unread f h = unrolled ∙ read_fails (get_or xs i no_slot) p (i + 1) (drop (i + 1) xs) bytes f (subst (λ o. FetchedAs (i + 1) o bytes (Err f)) here h)
+  module _ (u : Unit {0}) (t : Place) (r : Result (Unit {0}) StatementFault) (fetched : FetchedAs n (slot_at ys n) bytes (Ok u)) (stepped : Stepped p (step p bytes) t r) where
+    -- the slot holds what was read
+    turn_read : onward n (λ v. run v (n + 1) (drop n xs)) (step p bytes) ≡ run beginning 1 xs
+    turn_read = sym (ap (λ x. run p n (x ∷ drop n xs)) (read_whole (get_or xs (n - 1) no_slot) n bytes u (subst (λ o. FetchedAs n o bytes (Ok u)) here fetched))) ∙ unrolled
 
-  -- the slot holds what was read
-  turn_read : (u : Unit {0}) → FetchedAs (i + 1) (slot_at xs (i + 1)) bytes (Ok u) → run p (i + 1) (drop i xs) ≡ onward (i + 1) (λ t. run t (i + 1 + 1) (drop (i + 1) xs)) (step p bytes)
-  turn_read u h = unrolled ∙ ap (λ x. run p (i + 1) (x ∷ drop (i + 1) xs)) (read_whole (get_or xs i no_slot) (i + 1) bytes u (subst (λ o. FetchedAs (i + 1) o bytes (Ok u)) here h))
+    pub turn_refused : (l : Located) → Located_at n r l → checked xs ≡ Err (Statement l)
+    turn_refused l e = checked_is xs (Err (Statement l)) few (sym (stepped_err (step p bytes) p t r n (λ v. run v (n + 1) (drop n xs)) l stepped e) ∙ turn_read)
 
-  pub turn_refused : (u : Unit {0}) (t : Place) (r : Result (Unit {0}) StatementFault) (l : Located) → FetchedAs (i + 1) (slot_at xs (i + 1)) bytes (Ok u) → Stepped p (step p bytes) t r → placed (i + 1) r ≡ Err l → run p (i + 1) (drop i xs) ≡ Err (Statement l)
-  turn_refused u t r l h k e = turn_read u h ∙ stepped_err (step p bytes) p t r (i + 1) (λ v. run v (i + 1 + 1) (drop (i + 1) xs)) l k e
-
-  pub turn_taken : (u v : Unit {0}) (t : Place) (r : Result (Unit {0}) StatementFault) → FetchedAs (i + 1) (slot_at xs (i + 1)) bytes (Ok u) → Stepped p (step p bytes) t r → placed (i + 1) r ≡ Ok v → run p (i + 1) (drop i xs) ≡ run t (i + 1 + 1) (drop (i + 1) xs)
-  turn_taken u v t r h k e = turn_read u h ∙ ap (onward (i + 1) (λ w. run w (i + 1 + 1) (drop (i + 1) xs))) (stepped_ok (step p bytes) p t r (i + 1) v k e)
-
--- THE WHOLE
-
-pub checked_is : (xs : List Slot) (q : Result Place FileFault) → length xs ≤ most_slots → q ≡ run beginning 1 xs → checked xs ≡ ended (length xs + 1) q
-unfolding checked
-checked_is xs q h e = cond-false (ltb most_slots (length xs)) (Err TooManySlots) (ended (length xs + 1) (run beginning 1 xs)) (le-ltb most_slots (length xs) h) ∙ ap (ended (length xs + 1)) (sym e)
-
-pub checked_many : (xs : List Slot) → most_slots < length xs → checked xs ≡ Err TooManySlots
-unfolding checked
-checked_many xs h = cond-true (ltb most_slots (length xs)) (Err TooManySlots) (ended (length xs + 1) (run beginning 1 xs)) (lt-ltb most_slots (length xs) h)
-
-pub run_end : (xs : List Slot) (i n : ℕ) (p : Place) → length xs ≤ i → run p n (drop i xs) ≡ Ok p
-run_end xs i n p h = at_drop_all (run p n) xs i h
+    pub turn_taken : true ≡ is_ok r → run t (n + 1) (drop n xs) ≡ run beginning 1 xs
+    turn_taken e = sym (ap (onward n (λ v. run v (n + 1) (drop n xs))) (stepped_ok (step p bytes) p t r stepped e)) ∙ turn_read

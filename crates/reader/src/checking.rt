@@ -4,12 +4,12 @@ ghost use Rattle.source.specs.Slots.{slot_at};
 ghost use Rattle.grammar.specs.Complaints.{RefusalsAreLeast};
 ghost use Rattle.grammar.specs.Steps.{checked};
 ghost use Rattle.grammar.specs.Theorems.{Checks};
-ghost use Rattle.reader.specs.Reads.{FetchedAs, placed};
+ghost use Rattle.reader.specs.Reads.{FetchedAs};
 
 use crate::state::State;
-use grammar::{Counts, FileFault, Located, SourceFault, StatementFault};
+use grammar::{Counts, FileFault, Located, SourceFault};
 use recordbytes::RECORD_LENGTH;
-use source::{Fetched, Source};
+use source::{NoRecord, Source};
 
 // The most slots that a file may have.
 pub const MOST_SLOTS: usize = 100_000;
@@ -25,19 +25,9 @@ fn read<S: Source>(
     ensures same { S.Source.slots source.new ≡ S.Source.slots source.old }
 {
     match source.fetch(slot, out) {
-        Fetched::Record => Ok(()),
-        Fetched::Damaged(damage) => Err(SourceFault { slot, damage }),
-        Fetched::Absent => unreachable(),
-    }
-}
-
-// A refusal with its slot.
-fn locate(slot: usize, stepped: Result<(), StatementFault>) -> Result<(), Located>
-    ensures { result ≡ placed slot stepped }
-{
-    match stepped {
         Ok(()) => Ok(()),
-        Err(fault) => Err(Located { slot, fault }),
+        Err(NoRecord::Damaged(damage)) => Err(SourceFault { slot, damage }),
+        Err(NoRecord::Absent) => unreachable!(),
     }
 }
 
@@ -54,9 +44,9 @@ pub fn check<S: Source>(source: &mut S) -> Result<Counts, FileFault>
     }
     let mut state = State::new();
     let mut bytes = [0; RECORD_LENGTH];
-    for i in 0..slots {
-        read(source, i + 1, &mut bytes)?;
-        locate(i + 1, state.step(&bytes))?;
+    for slot in 1..=slots {
+        read(source, slot, &mut bytes)?;
+        state.step(&bytes).map_err(|fault| Located { slot, fault })?;
     }
     state.end(slots + 1)
 }

@@ -1,6 +1,6 @@
 -- Joined parts, cut apart again by their widths.
-use Rattle.std.proofs.Common.{◌≡◌, ℕ, ◌+◌, ◌-◌, List, [], ◌∷◌, ◌++◌, map, length, take, drop, replicate, sym, refl, ap, ◌∙◌}
-use Rattle.std.proofs.lemmas.List.{append_assoc, length-append, take_at, drop_at}
+use Rattle.std.proofs.Common.{◌≡◌, ℕ, ◌+◌, ◌-◌, ◌≤◌, List, [], ◌∷◌, ◌++◌, map, length, take, drop, replicate, sym, refl, ap, ◌∙◌, arith}
+use Rattle.std.proofs.lemmas.List.{append_assoc, length-append, length-replicate, take_at, drop_at}
 use Rattle.recordbytes.specs.Joins.{joined}
 use Rattle.rowbytes.specs.RowBytes.{padded}
 
@@ -41,3 +41,7 @@ cut_behind before (part ∷ parts) behind =
 pub cut_padded : (parts : List (List ℕ)) (widths : List ℕ) → widths_of parts ≡ widths → cut 0 widths (padded parts) ≡ parts
 unfolding padded
 cut_padded parts widths e = ap (λ ws. cut 0 ws (padded parts)) (sym e) ∙ cut_behind [] parts (replicate (256 - length (joined parts)) 0)
+
+pub length_padded : (ps : List (List ℕ)) → length (joined ps) ≤ 256 → length (padded ps) ≡ 256
+unfolding padded
+length_padded ps few = length-append (joined ps) (replicate (256 - length (joined ps)) 0) ∙ omega (arith, length-replicate {A = ℕ} (256 - length (joined ps)) 0)

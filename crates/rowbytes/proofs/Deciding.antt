@@ -1,8 +1,9 @@
 -- Bytes that are exactly those of a row, and all others.
-use Rattle.std.proofs.Common.{◌≡◌, ℕ, Bool, true, false, List, length, Some, None, Option, sym, refl, ap, ◌∙◌, ⊎_elim, arith}
+use Rattle.std.proofs.Common.{◌≡◌, ℕ, Bool, true, false, ◌&&◌, List, length, Some, None, Option, sym, refl, ap, ◌∙◌, ⊎_elim, arith}
 use Rattle.std.specs.Bool.{then_some}
+use Rattle.std.specs.Option.{option_map}
 use Rattle.std.specs.Str.{bytes_eq}
-use Rattle.std.proofs.lemmas.Bool.{and_from, and_left, and_right, cases_Bool}
+use Rattle.std.proofs.lemmas.Bool.{and_left, cases_Bool}
 use Rattle.rows.specs.Rows.{is_row, row_made}
 use Rattle.rows.specs.declared.fields.Fields.{Fields}
 use Rattle.rowbytes.specs.RowBytes.{row_bytes, row_read, is_row_bytes}
@@ -33,20 +34,17 @@ module _ (bytes : List ℕ) where
         let f : is_row (row_read bytes) ≡ false = ap is_row (sym read) ∙ when_none (is_row fields) fields e in
         none_for (and_left (is_row (row_read bytes)) (bytes_eq (row_bytes (row_read bytes)) bytes) f)
 
-    module _ (row : Fields) (made : Some row ≡ row_made fields) (again : List ℕ) (written : again ≡ row_bytes row) where
-      is : row ≡ row_read bytes
-      is = sym (when_some (is_row fields) fields row (sym made)).1 ∙ read
+    -- the row that the fields make is the answer exactly where it writes the bytes again
+    pub decided : (row : Fields) (again : List ℕ) (same : Bool) → Some row ≡ row_made fields → again ≡ row_bytes row → same ≡ bytes_eq again bytes → then_some same row ≡ answer
+    unfolding is_row_bytes
+    decided row again same made written compared =
+        let made_so = when_some (is_row fields) fields row (sym made) in
+        let is : row ≡ row_read bytes = sym made_so.1 ∙ read in
+        let fine : is_row (row_read bytes) ≡ true = ap is_row (sym read) ∙ made_so.0 in
+        let rewritten : same ≡ bytes_eq (row_bytes (row_read bytes)) bytes = compared ∙ ap (λ ys. bytes_eq ys bytes) (written ∙ ap row_bytes is) in
+        ap (then_some same) is ∙ ap (λ t. then_some t (row_read bytes)) (rewritten ∙ ap (λ t. t && bytes_eq (row_bytes (row_read bytes)) bytes) (sym fine))
 
-      rewritten : (b : Bool) → b ≡ bytes_eq again bytes → bytes_eq (row_bytes (row_read bytes)) bytes ≡ b
-      rewritten b e = ap (λ ys. bytes_eq ys bytes) (sym (written ∙ ap row_bytes is)) ∙ sym e
-
-      pub other_bytes : false ≡ bytes_eq again bytes → None ≡ answer
-      unfolding is_row_bytes
-      other_bytes e = none_for (and_right (is_row (row_read bytes)) (bytes_eq (row_bytes (row_read bytes)) bytes) (rewritten false e))
-
-      pub same_row : true ≡ bytes_eq again bytes → Some row ≡ answer
-      unfolding is_row_bytes
-      same_row e =
-          let f : is_row (row_read bytes) ≡ true = ap is_row (sym read) ∙ (when_some (is_row fields) fields row (sym made)).0 in
-          let t : is_row_bytes bytes ≡ true = and_from (is_row (row_read bytes)) (bytes_eq (row_bytes (row_read bytes)) bytes) f (rewritten true e) in
-          ap (λ f. Some f) is ∙ ap (λ b. then_some b (row_read bytes)) (sym t)
+-- what is mapped of an answer
+pub then_some_mapped : {X : Type 0} (f : X → Fields) (b : Bool) (x : X) → option_map f (then_some b x) ≡ then_some b (f x)
+then_some_mapped f true x = refl
+then_some_mapped f false x = refl

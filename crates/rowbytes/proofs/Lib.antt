@@ -1,7 +1,5 @@
-pub mod Joining
 pub mod Cutting
 pub mod Widths
-pub mod Parts
 pub mod Reading
 pub mod Rereading
 pub mod Deciding

@@ -17,8 +17,7 @@ use Rattle.rows.specs.declared.fields.Rank.{Rank}
 use Rattle.rows.specs.declared.fields.Rank.TheVariants.{Main, Detail}
 use Rattle.rows.specs.declared.fields.StatementFields.{StatementFields}
 use Rattle.rowbytes.specs.RowBytes.{padded, statement_letter, letter_of, movement_parts, statement_parts, row_bytes, byte_at, rank_of, balance_read, movement_read, statement_read, row_read, is_row_bytes, RowsReadBack}
-use Rattle.rowbytes.proofs.Joining.{length_padded}
-use Rattle.rowbytes.proofs.Cutting.{cut, cut_padded}
+use Rattle.rowbytes.proofs.Cutting.{cut, cut_padded, length_padded}
 use Rattle.rowbytes.proofs.Widths.{movement_widths, statement_widths, movement_wide, statement_wide, movement_within, statement_within, old_balance_fine, new_balance_fine, movements_few}
 
 -- the byte of a part of one

@@ -3,12 +3,12 @@ ghost use Rattle.std.specs.Prelude.{◌≡◌};
 ghost use Rattle.rowbytes.specs.RowBytes.{is_statement_of};
 
 use crate::STATEMENT;
-use recordbytes::{same_bytes, span};
+use recordbytes::span;
 use rows::ACCOUNT_LENGTH;
 
 // Whether the bytes begin as a statement row of the account does.
 pub fn is_statement_of(bytes: &[u8], account: &[u8; ACCOUNT_LENGTH]) -> bool
     ensures { result ≡ is_statement_of account.now bytes.now }
 {
-    bytes.len() > 0 && bytes[0] == STATEMENT && same_bytes(span(bytes, 2, 39), account)
+    bytes.first() == Some(&STATEMENT) && span(bytes, 2, 39) == account.as_slice()
 }

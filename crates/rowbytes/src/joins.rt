@@ -1,9 +1,21 @@
 // Parts written one behind the other.
-ghost use Rattle.std.specs.Prelude.{◌≡◌, ◌≤◌, length};
+ghost use Rattle.std.specs.Prelude.{◌≡◌, ◌≤◌, ◌++◌, length, drop};
 ghost use Rattle.recordbytes.specs.Joins.{joined};
 ghost use Rattle.rowbytes.specs.RowBytes.{held, padded as padded_of};
 
 use crate::ROW_LENGTH;
+
+// Puts the parts one behind the other at the front of some bytes.
+fn put_parts(parts: &[&[u8]], out: &mut [u8])
+    requires { length (joined (held parts.now)) ≤ length out.old }
+    ensures { out.new ≡ joined (held parts.now) ++ drop (length (joined (held parts.now))) out.old }
+{
+    if let Some((part, others)) = parts.split_first() {
+        let (place, behind) = out.split_at_mut(part.len());
+        place.copy_from_slice(part);
+        put_parts(others, behind);
+    }
+}
 
 // The parts one behind the other, then zeros.
 pub fn padded(parts: &[&[u8]]) -> [u8; ROW_LENGTH]
@@ -11,11 +23,6 @@ pub fn padded(parts: &[&[u8]]) -> [u8; ROW_LENGTH]
     ensures { result ≡ padded_of (held parts.now) }
 {
     let mut out = [0; ROW_LENGTH];
-    let mut end = 0;
-    for part in parts {
-        let next = end + part.len();
-        out[end..next].copy_from_slice(part);
-        end = next;
-    }
+    put_parts(parts, &mut out);
     out
 }

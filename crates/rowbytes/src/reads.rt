@@ -1,5 +1,5 @@
 // Reading a row by its positions, counted from 1.
-ghost use Rattle.std.specs.Prelude.{◌≡◌, ◌+◌, ◌-◌, ◌≤◌, length};
+ghost use Rattle.std.specs.Prelude.{◌≡◌, ◌+◌, ◌-◌, ◌≤◌};
 ghost use Rattle.std.specs.Option.{option_map};
 ghost use Rattle.std.specs.Bool.{then_some};
 ghost use Rattle.recordbytes.specs.Numbers.{value};
@@ -9,22 +9,19 @@ ghost use Rattle.rowbytes.specs.RowBytes.{rank_of, balance_read, movement_read, 
 
 use crate::writes::row_bytes;
 use crate::{DETAIL, ROW_LENGTH, STATEMENT};
-use recordbytes::{number, same_bytes, span};
+use recordbytes::{number, span};
 use rows::{Fields, MovementFields, Rank, Row, StatementFields};
 use values::signed;
 
 // The part of so many bytes whose first byte is at a position.
-fn part<const N: usize>(bytes: &[u8], first: usize) -> [u8; N]
-    requires { (1 ≤ first) × (first + N ≤ length bytes.now + 1) }
+fn part<const N: usize>(bytes: &[u8; ROW_LENGTH], first: usize) -> [u8; N]
+    requires { (1 ≤ first) × (first + N ≤ 257) }
     ensures { result ≡ span_of bytes.now first (first - 1 + N) }
 {
-    match span(bytes, first, first - 1 + N).first_chunk() {
-        Some(part) => *part,
-        None => unreachable(),
-    }
+    *span(bytes, first, first - 1 + N).first_chunk().unwrap()
 }
 
-// The rank that the first byte of a movement means.
+// The rank that the first byte of a movement means. No From says it, since the rank is of another crate and the byte of this one.
 fn rank(byte: u8) -> Rank
     ensures { result ≡ rank_of byte }
 {
@@ -39,7 +36,7 @@ fn rank(byte: u8) -> Rank
 fn balance(bytes: &[u8; 16]) -> i64
     ensures { result ≡ balance_read bytes.now }
 {
-    signed(bytes[0], &bytes[1..16])
+    signed(bytes[0], &bytes[1..])
 }
 
 // The number that six digits write.
@@ -50,8 +47,7 @@ fn six_digits(bytes: &[u8; 6]) -> u32
 }
 
 // The fields of a movement row at their positions.
-fn read_movement(bytes: &[u8]) -> MovementFields
-    requires { length bytes.now ≡ 256 }
+fn read_movement(bytes: &[u8; ROW_LENGTH]) -> MovementFields
     ensures { result ≡ movement_read bytes.now }
 {
     MovementFields {
@@ -72,8 +68,7 @@ fn read_movement(bytes: &[u8]) -> MovementFields
 }
 
 // The fields of a statement row at their positions.
-fn read_statement(bytes: &[u8]) -> StatementFields
-    requires { length bytes.now ≡ 256 }
+fn read_statement(bytes: &[u8; ROW_LENGTH]) -> StatementFields
     ensures { result ≡ statement_read bytes.now }
 {
     StatementFields {
@@ -87,8 +82,7 @@ fn read_statement(bytes: &[u8]) -> StatementFields
 }
 
 // The fields of a row, by its first byte.
-fn read_fields(bytes: &[u8]) -> Fields
-    requires { length bytes.now ≡ 256 }
+fn read_fields(bytes: &[u8; ROW_LENGTH]) -> Fields
     ensures { result ≡ row_read bytes.now }
 {
     if bytes[0] == STATEMENT {
@@ -101,12 +95,7 @@ fn read_fields(bytes: &[u8]) -> Fields
 pub fn read_row(bytes: &[u8]) -> Option<Row>
     ensures { option_map fields_of result ≡ then_some (is_row_bytes bytes.now) (row_read bytes.now) }
 {
-    if bytes.len() != ROW_LENGTH {
-        return None;
-    }
+    let bytes = bytes.as_array()?;
     let row = Row::new(read_fields(bytes))?;
-    if !same_bytes(&row_bytes(&row), bytes) {
-        return None;
-    }
-    Some(row)
+    (row_bytes(&row) == *bytes).then_some(row)
 }

@@ -1,6 +1,5 @@
 // Rows on examples.
 use super::*;
-use recordbytes::same_bytes;
 use rows::{Fields, MovementFields, Rank, Row, StatementFields};
 use std::test::Fail;
 
@@ -33,14 +32,16 @@ fn a_statement() -> Fields {
     })
 }
 
+fn made(fields: Fields) -> Result<Row, Fail> {
+    Row::new(fields).ok_or_else(|| Fail::new("the fields are those of a row"))
+}
+
 #[test]
 fn a_movement_is_read_back(rt: HostRuntime) -> Result<(), Fail> {
-    let Some(row) = Row::new(a_detail()) else {
-        return Err(Fail::new("the fields are those of a row"));
-    };
+    let row = made(a_detail())?;
     let bytes = row_bytes(&row);
-    assert!(rt; same_bytes(&bytes[0..17], b"D1000000001250500"));
-    assert!(rt; same_bytes(&bytes[192..256], &[0; 64]));
+    assert!(rt; &bytes[0..17] == b"D1000000001250500".as_slice());
+    assert!(rt; &bytes[192..256] == [0; 64].as_slice());
     assert!(rt; read_row(&bytes).is_some());
     assert!(rt; !is_statement_of(&bytes, &[b'7'; 38]));
     Ok(())
@@ -48,12 +49,10 @@ fn a_movement_is_read_back(rt: HostRuntime) -> Result<(), Fail> {
 
 #[test]
 fn a_statement_is_read_back(rt: HostRuntime) -> Result<(), Fail> {
-    let Some(row) = Row::new(a_statement()) else {
-        return Err(Fail::new("the fields are those of a row"));
-    };
+    let row = made(a_statement())?;
     let bytes = row_bytes(&row);
-    assert!(rt; same_bytes(&bytes[39..71], b"00000000000000001000000001250500"));
-    assert!(rt; same_bytes(&bytes[83..89], b"000012"));
+    assert!(rt; &bytes[39..71] == b"00000000000000001000000001250500".as_slice());
+    assert!(rt; &bytes[83..89] == b"000012".as_slice());
     assert!(rt; read_row(&bytes).is_some());
     assert!(rt; is_statement_of(&bytes, &[b'7'; 38]));
     assert!(rt; !is_statement_of(&bytes, &[b'8'; 38]));
@@ -62,9 +61,7 @@ fn a_statement_is_read_back(rt: HostRuntime) -> Result<(), Fail> {
 
 #[test]
 fn damaged_bytes_are_refused(rt: HostRuntime) -> Result<(), Fail> {
-    let Some(row) = Row::new(a_statement()) else {
-        return Err(Fail::new("the fields are those of a row"));
-    };
+    let row = made(a_statement())?;
     let mut bytes = row_bytes(&row);
     assert!(rt; read_row(&bytes[0..255]).is_none());
     bytes[255] = b'0';

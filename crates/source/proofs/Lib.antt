@@ -1,6 +1,4 @@
-pub mod Fetches
 pub mod Numbered
 mod Pieces
 mod FirstLine
 mod LineCount
-mod Cursor

@@ -1,17 +1,16 @@
 -- The number of lines.
-use Rattle.std.proofs.Common.{◌≡◌, ℕ, zero, suc, ◌+◌, ◌-◌, ◌<◌, Bool, true, false, cond, ◌&&◌, eqb, List, [], ◌∷◌, length, get_or, count_by, refl, ap, ◌∙◌, ⊎_elim, arith}
+use Rattle.std.proofs.Common.{◌≡◌, ℕ, suc, ◌+◌, ◌-◌, ◌<◌, Bool, true, false, cond, ◌&&◌, eqb, List, [], ◌∷◌, length, slice_get, count_by, Option, Some, None, sym, refl, ap, ◌∙◌, ⊎_elim, arith}
+use Rattle.std.specs.Borrow.{Bor}
+use Rattle.std.specs.Bool.{IsTrue}
+use Rattle.std.specs.Option.{MatchOption, option_copied}
 use Rattle.std.proofs.lemmas.List.Sums.{sum_by-cons}
-use Rattle.std.proofs.lemmas.Bool.{cases_Bool, cases_eq, eq-eqb, ne_eqb, and_right, cond-true, cond-false}
-use Rattle.source.specs.Lining.{feed_first, in_front, lines}
+use Rattle.std.proofs.lemmas.Bool.{cases_Bool, and_right, cond-true, cond-false}
+use Rattle.source.specs.Lining.{is_feed, feed_first, in_front, lines}
 use Rattle.source.proofs.FirstLine.{lines_feed, lines_return, lines_text}
-
--- whether a byte is a feed
-abbrev pub feed : ℕ → Bool
-feed byte = eqb byte 10
 
 -- 1 for a feed
 abbrev one_for : ℕ → ℕ
-one_for byte = cond (feed byte) 1 0
+one_for byte = cond (is_feed byte) 1 0
 
 -- a byte in front of a line makes no new line
 length_in_front : (x : ℕ) (all : List (List ℕ)) → 0 < length all → length (in_front x all) ≡ length all
@@ -22,24 +21,19 @@ length_in_front x (line ∷ rest) some = refl
 length_more : (x : ℕ) (xs : List ℕ) → 0 < length (lines xs) → length (lines (x ∷ xs)) ≡ one_for x + length (lines xs)
 length_more x xs some =
     ⊎_elim
-    (λ yes.
-    let one : one_for x ≡ 1 = cond-true {A = ℕ} (feed x) 1 0 (eq-eqb x 10 yes) in
-    ap length (lines_feed x xs yes) ∙ omega arith)
+    (λ feed. let one : one_for x ≡ 1 = cond-true {A = ℕ} (is_feed x) 1 0 feed in ap length (lines_feed x xs feed) ∙ omega arith)
     (λ no_feed.
-    let none : one_for x ≡ 0 = cond-false {A = ℕ} (feed x) 1 0 (ne_eqb x 10 no_feed) in
+    let none : one_for x ≡ 0 = cond-false {A = ℕ} (is_feed x) 1 0 no_feed in
     ⊎_elim
     (λ ending. ap length (lines_return x xs no_feed ending) ∙ omega arith)
     (λ text. ap length (lines_text x xs no_feed text) ∙ (length_in_front x (lines xs) some ∙ omega arith))
     (cases_Bool (eqb x 13 && feed_first xs)))
-    (cases_eq x 10)
+    (cases_Bool (is_feed x))
 
 -- one byte is a line
 length_one : (x : ℕ) → length (lines (x ∷ [])) ≡ 1
 length_one x =
-    ⊎_elim
-    (λ yes. ap length (lines_feed x [] yes))
-    (λ no_feed. ap length (lines_text x [] no_feed (and_right (eqb x 13) false refl)))
-    (cases_eq x 10)
+    ⊎_elim (λ feed. ap length (lines_feed x [] feed)) (λ no_feed. ap length (lines_text x [] no_feed (and_right (eqb x 13) false refl))) (cases_Bool (is_feed x))
 
 -- where there are bytes, there is a line
 some_line : (x : ℕ) (xs : List ℕ) → 0 < length (lines (x ∷ xs))
@@ -52,26 +46,24 @@ one_or_other : (t : Bool) → 1 ≡ cond t 1 0 + cond t 0 1
 one_or_other true = refl
 one_or_other false = refl
 
--- a line for each feed, and one for bytes behind the last: k is the last place
-length_lines : (xs : List ℕ) (k : ℕ) → length xs ≡ suc k → length (lines xs) ≡ count_by feed xs + cond (feed (get_or xs k 0)) 0 1
-length_lines [] k e = absurd (omega arith)
-length_lines (x ∷ []) zero e = omega (arith, length_one x, one_or_other (feed x))
-length_lines (x ∷ []) (suc k) e = absurd (omega arith)
-length_lines (x ∷ y ∷ ys) zero e = absurd (omega arith)
-length_lines (x ∷ y ∷ ys) (suc k) e =
-    omega (arith, length_more x (y ∷ ys) (some_line y ys), length_lines (y ∷ ys) k (omega arith), sum_by-cons one_for x (y ∷ ys))
+-- whether bytes end with a feed, or are none: no line is open at their end
+abbrev pub closed : Option ℕ → Bool
+closed None = true
+closed (Some byte) = is_feed byte
 
--- the number of lines where there are no bytes
-pub lines_none : (xs : List ℕ) → length xs ≡ 0 → length (lines xs) ≡ count_by feed xs
-lines_none [] none = refl
-lines_none (x ∷ xs) none = absurd (omega arith)
+-- a line for each feed, and one for bytes behind the last
+pub length_lines : (xs : List ℕ) → length (lines xs) ≡ count_by is_feed xs + cond (closed (slice_get xs (length xs - 1))) 0 1
+length_lines [] = refl
+length_lines (x ∷ []) = omega (arith, length_one x, one_or_other (is_feed x))
+length_lines (x ∷ y ∷ ys) =
+    let place : length (x ∷ y ∷ ys) - 1 ≡ suc (length (y ∷ ys) - 1) = omega arith in
+    let last = ap {B = ℕ} (λ k. cond (closed (slice_get (x ∷ y ∷ ys) k)) 0 1) place in
+    omega (arith, length_more x (y ∷ ys) (some_line y ys), length_lines (y ∷ ys), sum_by-cons one_for x (y ∷ ys), last)
 
--- where a feed comes last
-pub lines_ended : (xs : List ℕ) → 0 < length xs → get_or xs (length xs - 1) 0 ≡ 10 → length (lines xs) ≡ count_by feed xs
-lines_ended xs some last =
-    omega (arith, length_lines xs (length xs - 1) (omega arith), cond-true {A = ℕ} (feed (get_or xs (length xs - 1) 0)) 0 1 (eq-eqb _ 10 last))
-
--- where another byte comes last
-pub lines_open : (xs : List ℕ) → 0 < length xs → (get_or xs (length xs - 1) 0 ≡ 10 → ⊥) → length (lines xs) ≡ count_by feed xs + 1
-lines_open xs some other =
-    omega (arith, length_lines xs (length xs - 1) (omega arith), cond-false {A = ℕ} (feed (get_or xs (length xs - 1) 0)) 0 1 (ne_eqb _ 10 other))
+-- the same, where a test of the last byte has told whether a line is open
+pub lines_told : (xs : List ℕ) (last : Option (Bor ℕ)) (told : Bool) → option_copied last ≡ slice_get xs (length xs - 1) → MatchOption last (IsTrue told) (λ x. told ≡ is_feed x.now) → length (lines xs) ≡ count_by is_feed xs + cond told 0 1
+lines_told xs last told e h = length_lines xs ∙ ap (λ b. count_by is_feed xs + cond b 0 1) (ap closed (sym e) ∙ same last h)
+  where
+    same : (o : Option (Bor ℕ)) → MatchOption o (IsTrue told) (λ x. told ≡ is_feed x.now) → closed (option_copied o) ≡ told
+    same None h = sym h
+    same (Some x) h = sym h

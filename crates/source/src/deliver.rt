@@ -3,22 +3,22 @@ ghost use Rattle.std.specs.Prelude.{◌≡◌, Some};
 ghost use Rattle.source.specs.Slots.{judge};
 ghost use Rattle.source.specs.Fetching.{answer, left_in};
 
-use crate::source::{Damage, Fetched, TOO_LONG, TOO_SHORT};
+use crate::source::{Damage, NoRecord, TOO_LONG, TOO_SHORT};
 use recordbytes::RECORD_LENGTH;
+use std::cmp::Ordering;
 
 // Puts the bytes of a slot into `out` if they are a record.
-pub fn deliver(bytes: &[u8], out: &mut [u8; RECORD_LENGTH]) -> Fetched
+pub fn deliver(bytes: &[u8], out: &mut [u8; RECORD_LENGTH]) -> Result<(), NoRecord>
     ensures answers { result ≡ answer (Some (judge bytes.now)) }
     ensures writes { out.new ≡ left_in (Some (judge bytes.now)) out.old }
 {
-    if bytes.len() == RECORD_LENGTH {
-        out.copy_from_slice(bytes);
-        return Fetched::Record;
-    }
-    let cause = if bytes.len() < RECORD_LENGTH {
-        TOO_SHORT
-    } else {
-        TOO_LONG
+    let cause = match bytes.len().cmp(&RECORD_LENGTH) {
+        Ordering::Less => TOO_SHORT,
+        Ordering::Greater => TOO_LONG,
+        Ordering::Equal => {
+            out.copy_from_slice(bytes);
+            return Ok(());
+        }
     };
-    Fetched::Damaged(Damage { cause })
+    Err(NoRecord::Damaged(Damage { cause }))
 }

@@ -4,11 +4,12 @@
 mod deliver;
 mod lines;
 mod packed;
+mod places;
 mod source;
 
 pub use lines::Lines;
 pub use packed::Packed;
-pub use source::{Damage, Fetched, Source, TOO_LONG, TOO_SHORT};
+pub use source::{Damage, NoRecord, Source, TOO_LONG, TOO_SHORT};
 
 #[cfg(test)]
 mod tests;

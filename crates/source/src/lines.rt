@@ -5,21 +5,22 @@ ghost use Rattle.source.specs.Judging.{judged_sound};
 
 use self::cut::first_line;
 use crate::deliver::deliver;
-use crate::source::{Fetched, Source};
+use crate::places::place_of;
+use crate::source::{NoRecord, Source};
 use recordbytes::RECORD_LENGTH;
 
 mod cut;
 mod make;
 
-// A file of lines with a cursor: `passed` of its `count` lines stand before the byte `at`.
+// A file of lines with a cursor: `rest` is what stands behind the first `passed` of its `count` lines.
 #[derive(Drop)]
 pub struct Lines<'a> {
     file: &'a [u8],
     count: usize,
     passed: usize,
-    at: usize,
+    rest: &'a [u8],
     ghost counted: { count ≡ length (lines file.now) },
-    ghost here: { lines (drop at file.now) ≡ drop passed (lines file.now) },
+    ghost here: { lines rest.now ≡ drop passed (lines file.now) },
 }
 
 impl<'a> Lines<'a> {
@@ -31,14 +32,10 @@ impl<'a> Lines<'a> {
         ensures count { self.new.count ≡ self.old.count }
         ensures file { self.new.file.now ≡ self.old.file.now }
     {
-        let file = self.file;
-        let at = self.at;
-        let rest = &file[at..];
-        let line = first_line(rest);
-        self.at = at + line.next;
+        let (line, rest) = first_line(self.rest);
+        self.rest = rest;
         self.passed += 1;
-        let stop = line.stop;
-        &rest[..stop]
+        line
     }
 
     // Moves the cursor behind the first `n` lines.
@@ -50,10 +47,10 @@ impl<'a> Lines<'a> {
     {
         if n < self.passed {
             self.passed = 0;
-            self.at = 0;
+            self.rest = self.file;
         }
-        while self.passed < n {
-            let _ = self.pass();
+        for _ in self.passed..n {
+            self.pass();
         }
     }
 }
@@ -67,12 +64,8 @@ impl Source for Lines<'_> {
         self.count
     }
 
-    fn fetch(&mut self, n: usize, out: &mut [u8; RECORD_LENGTH]) -> Fetched {
-        let count = self.count;
-        if n == 0 || n > count {
-            return Fetched::Absent;
-        }
-        self.seek(n - 1);
+    fn fetch(&mut self, n: usize, out: &mut [u8; RECORD_LENGTH]) -> Result<(), NoRecord> {
+        self.seek(place_of(n, self.count)?);
         deliver(self.pass(), out)
     }
 }

@@ -1,9 +1,11 @@
 // A source that cuts a file every 128 bytes.
+ghost use Rattle.std.specs.Prelude.{◌≡◌, ◌<◌, [], length, slice_index_or};
 ghost use Rattle.source.specs.Packing.{pieces, packed};
 ghost use Rattle.source.specs.Judging.{judged_sound};
 
 use crate::deliver::deliver;
-use crate::source::{Fetched, Source};
+use crate::places::place_of;
+use crate::source::{NoRecord, Source};
 use recordbytes::RECORD_LENGTH;
 
 mod make;
@@ -12,6 +14,18 @@ mod make;
 #[derive(Drop)]
 pub struct Packed<'a> {
     file: &'a [u8],
+}
+
+impl<'a> Packed<'a> {
+    // The piece that has so many pieces before it.
+    fn piece(&self, before: usize) -> &'a [u8]
+        requires { before < length (pieces self.now.file.now) }
+        ensures { result.now ≡ slice_index_or (pieces self.now.file.now) before [] }
+    {
+        let rest = &self.file[before * RECORD_LENGTH..];
+        let stop = rest.len().min(RECORD_LENGTH);
+        &rest[..stop]
+    }
 }
 
 impl Source for Packed<'_> {
@@ -23,14 +37,8 @@ impl Source for Packed<'_> {
         self.file.len().div_ceil(RECORD_LENGTH)
     }
 
-    fn fetch(&mut self, n: usize, out: &mut [u8; RECORD_LENGTH]) -> Fetched {
-        let file = self.file;
-        let count = self.count();
-        if n == 0 || n > count {
-            return Fetched::Absent;
-        }
-        let rest = &file[(n - 1) * RECORD_LENGTH..];
-        let stop = rest.len().min(RECORD_LENGTH);
-        deliver(&rest[..stop], out)
+    fn fetch(&mut self, n: usize, out: &mut [u8; RECORD_LENGTH]) -> Result<(), NoRecord> {
+        let place = place_of(n, self.count())?;
+        deliver(self.piece(place), out)
     }
 }

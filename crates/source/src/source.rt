@@ -5,6 +5,7 @@ ghost use Rattle.source.specs.Slots.{Slot, Sound, slot_at};
 ghost use Rattle.source.specs.Fetching.{answer, left_in};
 
 use recordbytes::RECORD_LENGTH;
+use std::fmt;
 
 // The cause of a slot that has fewer bytes than a record.
 pub const TOO_SHORT: u8 = 1;
@@ -12,16 +13,25 @@ pub const TOO_SHORT: u8 = 1;
 // The cause of a slot that has more bytes than a record.
 pub const TOO_LONG: u8 = 2;
 
-// What is wrong with a slot that holds no record.
+// What is wrong with a slot that holds no record: a number from 1 to 255, which a source of any make gives its damages.
 #[derive(Clone, Copy, PartialEq, Eq, Debug)]
 pub struct Damage {
     pub cause: u8,
 }
 
-// What fetching a slot answers.
+impl fmt::Display for Damage {
+    fn fmt<W: fmt::Write>(&self, f: &mut fmt::Formatter<W>) -> fmt::Result {
+        match self.cause {
+            TOO_SHORT => write!(f, "shorter than a record"),
+            TOO_LONG => write!(f, "longer than a record"),
+            _ => write!(f, "damaged"),
+        }
+    }
+}
+
+// Why fetching a slot gives no record.
 #[derive(Clone, Copy, PartialEq, Eq, Debug)]
-pub enum Fetched {
-    Record,
+pub enum NoRecord {
     Damaged(Damage),
     Absent,
 }
@@ -38,8 +48,8 @@ pub trait Source {
     fn count(&self) -> usize
         ensures { result ≡ length (slots self.now) };
 
-    // Puts the record of slot `n` into `out`; where there is none, `out` stays as it is.
-    fn fetch(&mut self, n: usize, out: &mut [u8; RECORD_LENGTH]) -> Fetched
+    // Puts the record of slot `n` into the caller's bytes, which stay as they are where there is none: no record is kept on a heap.
+    fn fetch(&mut self, n: usize, out: &mut [u8; RECORD_LENGTH]) -> Result<(), NoRecord>
         ensures answers { result ≡ answer (slot_at (slots self.old) n) }
         ensures writes { out.new ≡ left_in (slot_at (slots self.old) n) out.old }
         ensures same { slots self.new ≡ slots self.old };

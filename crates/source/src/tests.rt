@@ -2,32 +2,38 @@ use crate::*;
 use recordbytes::RECORD_LENGTH;
 use std::process::Abort;
 
-const SHORT: Fetched = Fetched::Damaged(Damage { cause: TOO_SHORT });
+const RECORD: Result<(), NoRecord> = Ok(());
 
-const LONG: Fetched = Fetched::Damaged(Damage { cause: TOO_LONG });
+const SHORT: Result<(), NoRecord> = Err(NoRecord::Damaged(Damage { cause: TOO_SHORT }));
+
+const ABSENT: Result<(), NoRecord> = Err(NoRecord::Absent);
+
+const LONG: Result<(), NoRecord> = Err(NoRecord::Damaged(Damage { cause: TOO_LONG }));
 
 // Checks what fetching slot `n` answers, and that only a record is written, all of whose bytes are `byte`.
-fn fetches<S: Source>(rt: &impl Abort, source: &mut S, n: usize, expected: Fetched, byte: u8) {
+fn fetches<S: Source>(
+    rt: &impl Abort,
+    source: &mut S,
+    n: usize,
+    expected: Result<(), NoRecord>,
+    byte: u8,
+) {
     let mut out = [b'-'; RECORD_LENGTH];
     assert_eq!(rt; source.fetch(n, &mut out), expected);
-    let left = if expected == Fetched::Record {
-        byte
-    } else {
-        b'-'
-    };
+    let left = if expected.is_ok() { byte } else { b'-' };
     assert_eq!(rt; out, [left; RECORD_LENGTH]);
 }
 
 // Checks the answers of all slots, in order and backwards, and that there are no others.
-fn holds<S: Source>(rt: &impl Abort, source: &mut S, expected: &[Fetched], byte: u8) {
+fn holds<S: Source>(rt: &impl Abort, source: &mut S, expected: &[Result<(), NoRecord>], byte: u8) {
     assert_eq!(rt; source.count(), expected.len());
-    fetches(rt, source, 0, Fetched::Absent, byte);
-    for i in 0..expected.len() {
-        fetches(rt, source, i + 1, expected[i], byte);
+    fetches(rt, source, 0, ABSENT, byte);
+    for (i, answer) in expected.iter().enumerate() {
+        fetches(rt, source, i + 1, *answer, byte);
     }
-    fetches(rt, source, expected.len() + 1, Fetched::Absent, byte);
-    for i in (0..expected.len()).rev() {
-        fetches(rt, source, i + 1, expected[i], byte);
+    fetches(rt, source, expected.len() + 1, ABSENT, byte);
+    for (i, answer) in expected.iter().enumerate().rev() {
+        fetches(rt, source, i + 1, *answer, byte);
     }
 }
 
@@ -40,12 +46,7 @@ fn no_bytes(rt: HostRuntime) {
 #[test]
 fn packed_rests(rt: HostRuntime) {
     holds(&rt, &mut Packed::new(&[b'a'; 127]), &[SHORT], b'a');
-    holds(
-        &rt,
-        &mut Packed::new(&[b'a'; 129]),
-        &[Fetched::Record, SHORT],
-        b'a',
-    );
+    holds(&rt, &mut Packed::new(&[b'a'; 129]), &[RECORD, SHORT], b'a');
 }
 
 // Lines of 128, 129, 0, 1 and 128 bytes, with either ending, the last with none.
@@ -62,7 +63,7 @@ fn five_lines() -> [u8; 392] {
 
 #[test]
 fn lines_of_all_lengths(rt: HostRuntime) {
-    let expected = [Fetched::Record, LONG, SHORT, SHORT, Fetched::Record];
+    let expected = [RECORD, LONG, SHORT, SHORT, RECORD];
     holds(&rt, &mut Lines::new(&five_lines()), &expected, b'a');
 }
 
@@ -71,7 +72,7 @@ fn lines_of_all_lengths(rt: HostRuntime) {
 fn carriage_returns_before_a_line_feed(rt: HostRuntime) {
     let mut file = [b'\r'; 130];
     file[129] = b'\n';
-    holds(&rt, &mut Lines::new(&file), &[Fetched::Record], b'\r');
+    holds(&rt, &mut Lines::new(&file), &[RECORD], b'\r');
 }
 
 #[test]

@@ -2,7 +2,7 @@
 --   sort       a record of a kind, a record of no known kind, or a damaged slot
 --   tally      how many slots are of a sort
 --   count_in   how many a survey says they are
-use Rattle.std.specs.Prelude.{ℕ, ◌+◌, Bool, cond, List, [], ◌∷◌, Some, None, Option, ◌==◌, slice_index}
+use Rattle.std.specs.Prelude.{ℕ, Bool, true, false, List, Some, None, Option, ◌==◌, slice_index, count_by}
 use Rattle.layout.specs.declared.kind.Kind.{Kind}
 use Rattle.layout.specs.declared.kind.Kind.TheVariants.{Header, OldBalance, Movement, MovementSecond, Counterparty, Information, InformationSecond, InformationThird, NewBalance, FreeCommunication, Trailer}
 use Rattle.layout.specs.Kinds.{kind_of}
@@ -25,14 +25,16 @@ kind_number NewBalance = 8
 kind_number FreeCommunication = 9
 kind_number Trailer = 10
 
--- and for each sort
-abbrev pub number : Sort → ℕ
-number (Record kind) = kind_number kind
-number Unknown = 11
-number Damaged = 12
-
 abbrev pub is_same : Sort → Sort → Bool
-is_same one other = number one == number other
+is_same (Record one) (Record other) = kind_number one == kind_number other
+is_same (Record one) Unknown = false
+is_same (Record one) Damaged = false
+is_same Unknown (Record other) = false
+is_same Unknown Unknown = true
+is_same Unknown Damaged = false
+is_same Damaged (Record other) = false
+is_same Damaged Unknown = false
+is_same Damaged Damaged = true
 
 abbrev pub sort_by : Option Kind → Sort
 sort_by None = Unknown
@@ -42,9 +44,10 @@ abbrev pub sort_of : Slot → Sort
 sort_of (whole bytes) = sort_by (kind_of bytes)
 sort_of (damaged damage) = Damaged
 
-unfoldable pub tally : Sort → List Slot → ℕ
-tally sort [] = 0
-tally sort (slot ∷ slots) = cond (is_same (sort_of slot) sort) 1 0 + tally sort slots
+abbrev pub tally : Sort → List Slot → ℕ
+tally sort slots = count_by (λ slot. is_same (sort_of slot) sort) slots
 
 abbrev pub count_in : Survey → Sort → ℕ
-count_in survey sort = slice_index survey.counts (number sort)
+count_in survey (Record kind) = slice_index survey.kinds (kind_number kind)
+count_in survey Unknown = survey.unknown
+count_in survey Damaged = survey.damaged

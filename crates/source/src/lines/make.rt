@@ -16,7 +16,7 @@ impl<'a> Lines<'a> {
             file,
             count,
             passed: 0,
-            at: 0,
+            rest: file,
         }
     }
 }

@@ -1,14 +1,11 @@
-use Rattle.std.proofs.Common.{◌≡◌, length, ◌∙◌, arith, rules}
-use Rattle.images.proofs.Heading.{so_far_long, so_far_more, so_far_all}
+use Rattle.std.proofs.Common.{◌≡◌, ap, ◌∙◌, rules}
+use Rattle.recordbytes.specs.Joins.{joined}
+use Rattle.images.specs.Headers.{four_bytes}
+use Rattle.images.proofs.Heading.{mapped, flattened}
 use Rattle.images.proofs.headers.to_bytes.Goals as goal
 
-pub slice_bounds-out-end : goal.slice_bounds-out-end
-slice_bounds-out-end c =
-    let long : length c.loop-i.out ≡ 32 = so_far_long c.args.numbers.now c.told-numbers c.loop-i.i c.loop-i.out (omega arith) c.loop-i.invariant in
-    search rules
-
-pub loop-i-preserved : goal.loop-i-preserved
-loop-i-preserved c = so_far_more c.args.numbers.now c.told-numbers c.loop-i.i c.loop-i.out (omega arith) c.copy_from_slice.new.self (c.copy_from_slice.ensures.after ∙ c.to_le_bytes.ensures) c.loop-i.invariant
-
 pub returns : goal.returns
-returns c = so_far_all c.args.numbers.now c.told-numbers c.loop-i.i c.loop-i.out (omega arith) c.loop-i.invariant
+returns c =
+    let whole : c.unwrap.result.now ≡ c.as_flattened.result.now = search rules in
+    let numbers = mapped _ _ four_bytes c.args.numbers.now c.map-quadruples.result 8 c.map-quadruples.ensures.items c.told-numbers (λ p q x y k. search rules) in
+    whole ∙ (c.as_flattened.ensures.value ∙ (flattened c.map-quadruples.result ∙ ap joined numbers))

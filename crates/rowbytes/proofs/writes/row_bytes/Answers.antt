@@ -3,10 +3,6 @@ use Rattle.rows.specs.Rows.{is_row}
 use Rattle.rowbytes.specs.RowBytes.{row_bytes}
 use Rattle.rowbytes.proofs.writes.row_bytes.Goals as goal
 
-pub movement_bytes-requires : goal.movement_bytes-requires
-unfolding is_row
-movement_bytes-requires c = c.in-Movement.ensures.fine
-
 pub statement_bytes-requires : goal.statement_bytes-requires
 unfolding is_row
 statement_bytes-requires c = c.in-Statement.ensures.fine

@@ -1,29 +1,19 @@
-use Rattle.std.proofs.Common.{arith, rules}
-use Rattle.std.proofs.lemmas.List.{take_rest, length-drop}
-use Rattle.source.proofs.Cursor.{bytes_left, line_here, next_here}
+use Rattle.std.proofs.Common.{ℕ, ◌<◌, List, [], ◌∷◌, length, drop, sym, ap, ◌∙◌, arith}
+use Rattle.std.proofs.lemmas.List.{length-drop, drop-drop}
+use Rattle.source.specs.Lining.{lines}
 use Rattle.source.proofs.lines.Lines.pass.Goals as goal
 
-pub slice_bounds-rest-count : goal.slice_bounds-rest-count
-slice_bounds-rest-count c = omega (arith, bytes_left c.args.self.now c.requires)
+-- where a line is left, bytes are left
+some_bytes : (rest : List ℕ) → 0 < length (lines rest) → 0 < length rest
+some_bytes [] left = left
+some_bytes (x ∷ rest) left = omega arith
 
-pub slice_bounds-rest-start : goal.slice_bounds-rest-start
-slice_bounds-rest-start c = omega (arith, bytes_left c.args.self.now c.requires)
-
-pub first_line-line-requires : goal.first_line-line-requires
-first_line-line-requires c = simp (take_rest, length-drop) (omega (arith, bytes_left c.args.self.now c.requires))
+pub first_line-requires : goal.first_line-requires
+first_line-requires c =
+    let s = c.args.self.now in
+    some_bytes s.rest.now (omega (arith, c.requires, s.counted, length-drop s.passed (lines s.file.now), ap length s.here))
 
 pub invariant_of-self : goal.invariant_of-self
 invariant_of-self c =
-    record {
-      counted = c.args.self.now.counted;
-      here = next_here c.args.self.now _ _ c.first_line-line.result.next (take_rest c.args.self.now.file.now c.args.self.now.at) c.first_line-line.ensures.first;
-    }
-
-pub returns : goal.returns
-returns c =
-    record {
-      line = line_here c.args.self.now _ _ c.first_line-line.result.next (take_rest c.args.self.now.file.now c.args.self.now.at) c.first_line-line.ensures.first;
-      passed = search rules;
-      count = search rules;
-      file = search rules;
-    }
+    let s = c.args.self.now in
+    record { counted = s.counted; here = ap (drop 1) (sym c.first_line.ensures ∙ s.here) ∙ drop-drop 1 s.passed (lines s.file.now) }
