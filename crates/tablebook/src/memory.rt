@@ -58,6 +58,7 @@ impl<'a> Memory<'a> {
         ensures { result ≡ last_place account.now (take end self.now.rows.now) }
     {
         let kept = self.kept as usize;
+        // no `or_else`: of a closure that calls `latest_kept` the check learns nothing
         match last(&self.rows[kept..end], account) {
             Some(i) => Some(kept + i),
             None => self.latest_kept(account),

@@ -6,6 +6,7 @@ ghost use Rattle.cashbook.specs.Counting.{figures, counts_result, opened as open
 use super::Counts;
 use crate::fault::BookFault;
 
+// Each changes a copy, since `..*self` is refused where a struct has ghost fields.
 impl Counts {
     // The numbers once an empty batch is started.
     pub fn opened(&self) -> Result<Counts, BookFault>
