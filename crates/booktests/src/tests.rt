@@ -3,27 +3,16 @@ use cashbook::{Book, BookFault, MOST_ROWS, fault_number};
 use imagebook::ImageBook;
 use images::HEADER_LENGTH;
 use rowbytes::ROW_LENGTH;
-use rows::{BLANK, Fields, Row, StatementFields};
+use rows::{Account, BLANK, Fields, Row, StatementFields};
 use std::process::Abort;
 use std::test::Fail;
 use tablebook::TableBook;
 
-const ACCOUNT: [u8; 38] = *b"2BE68539007547034                  EUR";
+const ACCOUNT: Account = *b"2BE68539007547034                  EUR";
 
 // The number of a refusal, 0 for none.
 fn refusal(answer: Result<(), BookFault>) -> usize {
-    match answer {
-        Ok(()) => 0,
-        Err(fault) => fault_number(fault),
-    }
-}
-
-// The number of rows of a batch that was closed, or none where that was refused.
-fn rows(answer: Result<u32, BookFault>) -> Option<u32> {
-    match answer {
-        Ok(rows) => Some(rows),
-        Err(_) => None,
-    }
+    answer.err().map_or(0, |fault| fault_number(fault))
 }
 
 // A statement row that closes with a balance.
@@ -36,10 +25,7 @@ fn statement(new_balance: i64) -> Result<Row, Fail> {
         new_day: *b"020324",
         movements: 1,
     });
-    match Row::new(fields) {
-        Some(row) => Ok(row),
-        None => Err(Fail::new("the fields are those of a row")),
-    }
+    Row::new(fields).ok_or_else(|| Fail::new("the fields are those of a row"))
 }
 
 fn closes_with(row: &Row) -> i64 {
@@ -55,8 +41,8 @@ fn refuses<B: Book>(rt: &impl Abort, book: &mut B, kept: u32) {
     assert!(rt; !book.is_open());
     assert_eq!(rt; book.kept(), kept);
     assert_eq!(rt; refusal(book.add(&into)), 25);
-    assert_eq!(rt; rows(book.commit()), None);
-    assert_eq!(rt; rows(book.cancel()), None);
+    assert_eq!(rt; book.commit().ok(), None);
+    assert_eq!(rt; book.cancel().ok(), None);
     assert_eq!(rt; refusal(book.kept_row(0, &mut into)), 26);
     assert_eq!(rt;
         refusal(book.kept_row(kept.saturating_add(1), &mut into)),
@@ -76,7 +62,7 @@ fn fills<B: Book>(rt: &impl Abort, book: &mut B, capacity: u32) -> Result<(), Fa
     for _ in 1..capacity {
         assert_eq!(rt; refusal(book.add(&first)), 0);
     }
-    assert_eq!(rt; rows(book.cancel()), Some(capacity.saturating_sub(1)));
+    assert_eq!(rt; book.cancel().ok(), Some(capacity.saturating_sub(1)));
     refuses(rt, book, 0);
     assert!(rt; !book.latest(&ACCOUNT, &mut into));
     assert_eq!(rt; refusal(book.open()), 0);
@@ -91,7 +77,7 @@ fn fills<B: Book>(rt: &impl Abort, book: &mut B, capacity: u32) -> Result<(), Fa
     }
     assert_eq!(rt; book.free(), 0);
     assert_eq!(rt; refusal(book.add(&last)), 24);
-    assert_eq!(rt; rows(book.commit()), Some(capacity));
+    assert_eq!(rt; book.commit().ok(), Some(capacity));
     refuses(rt, book, capacity);
     assert_eq!(rt; book.latest_kept(&ACCOUNT, &mut into), capacity > 0);
     assert_eq!(rt; closes_with(&into), if capacity > 0 { 2 } else { 0 });
@@ -151,7 +137,7 @@ fn short_bytes_stay_as_they_are(rt: HostRuntime) -> Result<(), Fail> {
     let mut bytes = [7; HEADER_LENGTH - 1];
     let mut book = ImageBook::new(&mut bytes);
     assert_eq!(rt; refusal(book.open()), 0);
-    assert_eq!(rt; rows(book.commit()), Some(0));
+    assert_eq!(rt; book.commit().ok(), Some(0));
     let _ = book.close();
     assert_eq!(rt; bytes, [7; HEADER_LENGTH - 1]);
     Ok(())

@@ -3,9 +3,7 @@ use Rattle.std.proofs.Common.{◌≡◌, ℕ, ◌+◌, ◌-◌, ◌<◌, ◌≤�
 use Rattle.std.proofs.lemmas.List.{take_more}
 use Rattle.std.proofs.lemmas.Bool.{cond-true, cond-false}
 use Rattle.rows.specs.Accounts.{is_of}
-use Rattle.rows.specs.Rows.{is_row}
 use Rattle.rows.specs.declared.fields.Fields.{Fields}
-use Rattle.cashbook.specs.Meaning.{are_rows}
 use Rattle.cashbook.specs.Questions.{latest}
 
 -- with one row more at the end
@@ -28,8 +26,3 @@ module _ (account : List ℕ) (rows : List Fields) (i : ℕ) (d : Fields) (some 
 
   pub latest_before : is_of account last ≡ false → latest account (take i rows) ≡ latest account (take (i - 1) rows)
   latest_before t = back ∙ cond-false (is_of account last) (Some last) (latest account (take (i - 1) rows)) t
-
--- the latest of rows is a row
-pub latest_is_row : (account : List ℕ) (rows : List Fields) (row : Fields) → are_rows rows ≡ true → latest account rows ≡ Some row → is_row row ≡ true
-latest_is_row account [] row fine e = absurd (let z : ◌≡◌ {A = ℕ} 0 1 = cc in omega arith)
-latest_is_row account (first ∷ rows) row fine e = let h = latest_is_row account rows row in grind arith

@@ -6,7 +6,7 @@ ghost use Rattle.cashbook.specs.Calls.{answer, after, opening, adding, committin
 ghost use Rattle.cashbook.specs.Questions.{Puts, kept_row, row_answer, latest};
 
 use crate::fault::BookFault;
-use rows::{ACCOUNT_LENGTH, Row};
+use rows::{Account, Row};
 
 // A capacity, kept rows, and no batch or a batch of rows.
 pub trait Book {
@@ -36,6 +36,8 @@ pub trait Book {
         ensures answers { result ≡ answer (cancelling (means self.old)) }
         ensures leaves { means self.new ≡ after (means self.old) (cancelling (means self.old)) };
 
+    // Each book tells the next three itself, since a book of another make need not keep `Counts`.
+
     // Whether a batch is open.
     fn is_open(&self) -> bool
         ensures { result ≡ is_open (means self.now) };
@@ -53,13 +55,15 @@ pub trait Book {
         ensures answers { result ≡ row_answer (kept_row (means self.now) n) }
         ensures puts { Puts (kept_row (means self.now) n) into.old into.new };
 
+    // By a rule of the project a question puts its row into the caller's place, so these two answer a `bool` and no row.
+
     // Puts the latest kept statement row of an account into `into`; false, and nothing written, where there is none.
-    fn latest_kept(&self, account: &[u8; ACCOUNT_LENGTH], into: &mut Row) -> bool
+    fn latest_kept(&self, account: &Account, into: &mut Row) -> bool
         ensures answers { result ≡ is_some (latest account.now (means self.now).kept) }
         ensures puts { Puts (latest account.now (means self.now).kept) into.old into.new };
 
     // The same among the kept rows and those of the batch.
-    fn latest(&self, account: &[u8; ACCOUNT_LENGTH], into: &mut Row) -> bool
+    fn latest(&self, account: &Account, into: &mut Row) -> bool
         ensures answers { result ≡ is_some (latest account.now (all_rows (means self.now))) }
         ensures puts { Puts (latest account.now (all_rows (means self.now))) into.old into.new };
 }

@@ -6,7 +6,7 @@ mod calls;
 mod numbers;
 
 // Room for so many rows, so many kept rows, and no batch or a batch of so many rows.
-#[derive(Clone, Copy)]
+#[derive(Clone, Copy, Debug, PartialEq, Eq)]
 pub struct Counts {
     capacity: u32,
     kept: u32,

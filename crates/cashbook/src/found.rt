@@ -7,6 +7,7 @@ ghost use Rattle.cashbook.specs.Questions.{Puts};
 use rows::Row;
 
 // Puts the row that was found into `into`; false, and nothing written, where none was.
+// It answers no row, since by a rule of the project a question puts its row into the caller's place.
 pub fn put(found: Option<Row>, into: &mut Row) -> bool
     ensures answers { result ≡ is_some (option_map fields_of found) }
     ensures puts { Puts (option_map fields_of found) into.old into.new }

@@ -13,7 +13,7 @@ use Rattle.images.specs.Images.{image_rows, put_row, put_header, Exact}
 use Rattle.imagebook.specs.declared.book.ImageBook.{ImageBook}
 
 abbrev pub memory : ImageBook → List ℕ
-memory s = s.image.bytes.now
+memory s = s.bytes.now
 
 abbrev pub means_of : ImageBook → Meaning
 means_of s = counted (figures s.counts) (image_rows s.counts.capacity (memory s))

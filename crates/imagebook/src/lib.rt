@@ -2,6 +2,5 @@
 #![tactic(auto)]
 
 mod book;
-mod image;
 
 pub use book::{ImageBook, images_are_exact};

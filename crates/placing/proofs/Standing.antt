@@ -30,11 +30,11 @@ row_of account (Movement m) e a = grind arith
 row_of account (Statement s) e a = ap (λ own. bytes_eq own a) ((bytes_eq-Decides s.account account).0 e)
 
 -- a statement row of an account stands at a place
-record Stands (account : List ℕ) (rows : List Fields) (place : ℕ) : Type 0 where
-  inside : place < length rows
+pub record Stands (account : List ℕ) (rows : List Fields) (place : ℕ) : Type 0 where
+  pub inside : place < length rows
   own : (d : Fields) (a : List ℕ) → is_of a (get_or rows place d) ≡ bytes_eq account a
 
-last_stands : (account : List ℕ) (rows : List Fields) (place : ℕ) → last_place account rows ≡ Some place → Stands account rows place
+pub last_stands : (account : List ℕ) (rows : List Fields) (place : ℕ) → last_place account rows ≡ Some place → Stands account rows place
 unfolding last_place
 last_stands account [] place e = absurd (grind arith)
 last_stands account (row ∷ rows) place e =
@@ -49,7 +49,7 @@ last_stands account (row ∷ rows) place e =
           rw q (record { inside = omega arith; own = λ _. row_of account row (grind arith) })
     ]
 
-latest_last : (account : List ℕ) (rows : List Fields) (d : Fields) → latest account rows ≡ option_map (λ place. get_or rows place d) (last_place account rows)
+pub latest_last : (account : List ℕ) (rows : List Fields) (d : Fields) → latest account rows ≡ option_map (λ place. get_or rows place d) (last_place account rows)
 unfolding last_place
 latest_last account [] d = refl
 latest_last account (row ∷ rows) d = let h = latest_last account rows d in grind arith
@@ -74,11 +74,17 @@ place_of rows j inside = (place_stands rows j inside).own
 
 -- THE LATEST ROW
 
-pub latest_found : (account : List ℕ) (rows : List Fields) (d : Fields) (j : ℕ) → index_of account (accounts rows) ≡ Some j → latest account rows ≡ Some (get_or rows (get_or (places rows) j 0) d)
-latest_found account rows d j e =
+pub last_found : (account : List ℕ) (rows : List Fields) (j : ℕ) → index_of account (accounts rows) ≡ Some j → last_place account rows ≡ Some (get_or (places rows) j 0)
+last_found account rows j e =
     let h = index_found account (accounts rows) j e in
-    rw (latest_last account rows d, sym ((bytes_eq-Decides (get_or (accounts rows) j []) account).0 h.1), place_last rows j h.0)
+    rw (sym ((bytes_eq-Decides (get_or (accounts rows) j []) account).0 h.1)) (place_last rows j h.0)
+
+pub last_missing : (account : List ℕ) (rows : List Fields) → index_of account (accounts rows) ≡ None → last_place account rows ≡ None
+last_missing account rows e = grind (arith, among_accounts account rows, among_index 0 account (accounts rows))
+
+pub latest_found : (account : List ℕ) (rows : List Fields) (d : Fields) (j : ℕ) → index_of account (accounts rows) ≡ Some j → latest account rows ≡ Some (get_or rows (get_or (places rows) j 0) d)
+latest_found account rows d j e = rw (latest_last account rows d, last_found account rows j e)
 
 pub latest_none : (account : List ℕ) (rows : List Fields) → index_of account (accounts rows) ≡ None → latest account rows ≡ None
 latest_none account [] e = refl
-latest_none account (row ∷ rows) e = grind (arith, among_accounts account (row ∷ rows), among_index 0 account (accounts (row ∷ rows)), latest_last account (row ∷ rows) row)
+latest_none account (row ∷ rows) e = rw (latest_last account (row ∷ rows) row, last_missing account (row ∷ rows) e)

@@ -1,28 +1,8 @@
--- Where an account stands among accounts, and the walk that finds it.
-use Rattle.std.proofs.Common.{◌≡◌, ℕ, zero, suc, ◌+◌, ◌<◌, ◌≤◌, Bool, true, false, cond, ◌||◌, List, [], ◌∷◌, length, get_or, drop, is_some, Some, None, refl, inl, inr, arith}
+-- Where an account stands among accounts.
+use Rattle.std.proofs.Common.{◌≡◌, ℕ, zero, suc, ◌+◌, ◌<◌, Bool, true, false, ◌||◌, List, [], ◌∷◌, length, get_or, is_some, Some, refl, inl, inr, arith}
 use Rattle.std.specs.Str.{bytes_eq}
-use Rattle.std.proofs.lemmas.List.{at_drop_more, at_drop_all}
 use Rattle.std.proofs.lemmas.Bool.{cases_Bool, or_left, or_right}
 use Rattle.placing.specs.Places.{index_from, index_of}
-
--- THE WALK
-
-module _ (account : List ℕ) (all : List (List ℕ)) (j : ℕ) where
-  index_step : j < length all → index_from j account (drop j all) ≡ cond (bytes_eq (get_or all j []) account) (Some j) (index_from (j + 1) account (drop (j + 1) all))
-  unfolding index_from
-  index_step inside = at_drop_more (index_from j account) all j [] inside
-
-  pub index_more : j < length all → bytes_eq (get_or all j []) account ≡ false → index_from j account (drop j all) ≡ index_from (j + 1) account (drop (j + 1) all)
-  index_more inside other = rw (index_step inside, other)
-
-  pub index_here : j < length all → bytes_eq (get_or all j []) account ≡ true → index_from j account (drop j all) ≡ Some j
-  index_here inside same = rw (index_step inside, same)
-
-  pub index_end : length all ≤ j → index_from j account (drop j all) ≡ None
-  unfolding index_from
-  index_end past = at_drop_all (index_from j account) all j past
-
--- AN ACCOUNT AMONG ACCOUNTS
 
 abbrev pub among : List ℕ → List (List ℕ) → Bool
 among account [] = false

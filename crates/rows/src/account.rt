@@ -2,16 +2,15 @@
 ghost use Rattle.std.specs.Prelude.{◌≡◌};
 ghost use Rattle.rows.specs.Accounts.{is_of as is_of_account};
 
-use crate::ACCOUNT_LENGTH;
+use crate::Account;
 use crate::fields::Fields;
-use recordbytes::same_bytes;
 
 // Whether fields are those of a statement row of an account.
-pub fn is_of(fields: &Fields, account: &[u8; ACCOUNT_LENGTH]) -> bool
+pub fn is_of(fields: &Fields, account: &Account) -> bool
     ensures { result ≡ is_of_account account.now fields.now }
 {
     match fields {
         Fields::Movement(_) => false,
-        Fields::Statement(statement) => same_bytes(&statement.account, account),
+        Fields::Statement(statement) => &statement.account == account,
     }
 }

@@ -1,15 +1,15 @@
 // The fields of rows, plainly: nothing is promised of them.
-use crate::ACCOUNT_LENGTH;
+use crate::{ACCOUNT_LENGTH, Account};
 
 // Whether a movement is a main movement or a detail of one.
-#[derive(Clone, Copy)]
+#[derive(Clone, Copy, Debug, PartialEq, Eq)]
 pub enum Rank {
     Main,
     Detail,
 }
 
 // The fields of a movement row, as records write them.
-#[derive(Clone, Copy)]
+#[derive(Clone, Copy, Debug, PartialEq, Eq)]
 pub struct MovementFields {
     pub rank: Rank,
     pub sign: u8,
@@ -32,10 +32,10 @@ pub struct MovementFields {
 }
 
 // The fields of a statement row; balances are in thousandths, negative for a debit.
-#[derive(Clone, Copy)]
+#[derive(Clone, Copy, Debug, PartialEq, Eq)]
 pub struct StatementFields {
     // how the account is numbered, then the account and its currency
-    pub account: [u8; ACCOUNT_LENGTH],
+    pub account: Account,
     pub old_balance: i64,
     pub new_balance: i64,
     pub old_day: [u8; 6],
@@ -44,7 +44,7 @@ pub struct StatementFields {
     pub movements: u32,
 }
 
-#[derive(Clone, Copy)]
+#[derive(Clone, Copy, Debug, PartialEq, Eq)]
 pub enum Fields {
     Movement(MovementFields),
     Statement(StatementFields),

@@ -9,6 +9,7 @@ use layout::{Form, holds};
 use values::Money;
 
 // Whether the bytes are so many, and of a form.
+#[tactic(auto, unfolding(crate::specs::Rows::fits))]
 fn fits(form: Form, width: usize, bytes: &[u8]) -> bool
     ensures { result ≡ fits_of (form_of form) width bytes.now }
 {
@@ -64,6 +65,7 @@ fn is_statement(s: &StatementFields) -> bool
         && s.movements <= MOST_MOVEMENTS
 }
 
+#[tactic(auto, unfolding(crate::specs::Rows::is_row))]
 pub fn is_row(fields: &Fields) -> bool
     ensures { result ≡ is_row_of fields.now }
 {

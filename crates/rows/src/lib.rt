@@ -15,5 +15,8 @@ pub use row::Row;
 // The number of bytes of an account: how it is numbered, then the account and its currency.
 pub const ACCOUNT_LENGTH: usize = 38;
 
+// The bytes of an account.
+pub type Account = [u8; ACCOUNT_LENGTH];
+
 // The most movement rows that a statement row can count.
 pub const MOST_MOVEMENTS: u32 = 100_000;

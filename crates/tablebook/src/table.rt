@@ -2,7 +2,6 @@
 ghost use Rattle.std.specs.Prelude.{◌≡◌, ◌≤◌, true, length, take};
 ghost use Rattle.cashbook.specs.Counting.{figures, used};
 ghost use Rattle.cashbook.specs.Meaning.{are_rows};
-ghost use Rattle.tablebook.specs.Held.{InStep};
 
 use crate::memory::Memory;
 use cashbook::Counts;
@@ -10,14 +9,13 @@ use cashbook::Counts;
 mod calls;
 mod make;
 
-// Kept rows first, those of the batch behind them; the first places are those of `accounts` accounts.
+// Kept rows first, those of the batch behind them.
 #[derive(Drop)]
 pub struct TableBook<'a> {
     memory: Memory<'a>,
     counts: Counts,
-    accounts: usize,
+    ghost kept: { memory.kept ≡ (figures counts).kept },
     ghost backed: { (figures counts).capacity ≤ length memory.rows.now },
     ghost placed: { (figures counts).capacity ≤ length memory.places.now },
     ghost fine: { are_rows (take (used (figures counts)) memory.rows.now) ≡ true },
-    ghost step: { InStep (take (figures counts).kept memory.rows.now) accounts memory.places.now },
 }

@@ -6,63 +6,51 @@ ghost use Rattle.cashbook.specs.Counting.{figures, counts_result, opened as open
 use super::Counts;
 use crate::fault::BookFault;
 
+// Each changes a copy, since `..*self` is refused where a struct has ghost fields.
 impl Counts {
     // The numbers once an empty batch is started.
     pub fn opened(&self) -> Result<Counts, BookFault>
         ensures { counts_result result ≡ opened_of (figures self.now) }
     {
-        match self.batch {
-            Some(_) => Err(BookFault::BatchOpen),
-            None => Ok(Counts {
-                capacity: self.capacity,
-                kept: self.kept,
-                batch: Some(0),
-            }),
+        if self.batch.is_some() {
+            return Err(BookFault::BatchOpen);
         }
+        let mut opened = *self;
+        opened.batch = Some(0);
+        Ok(opened)
     }
 
     // The numbers once the batch has one row more.
     pub fn added(&self) -> Result<Counts, BookFault>
         ensures { counts_result result ≡ added_of (figures self.now) }
     {
-        let Some(rows) = self.batch else {
-            return Err(BookFault::NoBatch);
-        };
+        let rows = self.batch.ok_or(BookFault::NoBatch)?;
         if self.kept + rows == self.capacity {
             return Err(BookFault::NoRoom);
         }
-        Ok(Counts {
-            capacity: self.capacity,
-            kept: self.kept,
-            batch: Some(rows + 1),
-        })
+        let mut added = *self;
+        added.batch = Some(rows + 1);
+        Ok(added)
     }
 
     // The numbers once the batch is kept.
     pub fn committed(&self) -> Result<Counts, BookFault>
         ensures { counts_result result ≡ committed_of (figures self.now) }
     {
-        match self.batch {
-            Some(rows) => Ok(Counts {
-                capacity: self.capacity,
-                kept: self.kept + rows,
-                batch: None,
-            }),
-            None => Err(BookFault::NoBatch),
-        }
+        let batch = self.batch.ok_or(BookFault::NoBatch)?;
+        let mut committed = *self;
+        committed.kept += batch;
+        committed.batch = None;
+        Ok(committed)
     }
 
     // The numbers once the batch is gone.
     pub fn cancelled(&self) -> Result<Counts, BookFault>
         ensures { counts_result result ≡ cancelled_of (figures self.now) }
     {
-        match self.batch {
-            Some(_) => Ok(Counts {
-                capacity: self.capacity,
-                kept: self.kept,
-                batch: None,
-            }),
-            None => Err(BookFault::NoBatch),
-        }
+        self.batch.ok_or(BookFault::NoBatch)?;
+        let mut cancelled = *self;
+        cancelled.batch = None;
+        Ok(cancelled)
     }
 }

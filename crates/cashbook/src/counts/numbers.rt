@@ -11,13 +11,8 @@ impl Counts {
     pub fn empty(room: usize) -> Counts
         ensures { figures result ≡ figure (min room 100000) 0 None }
     {
-        let capacity = if room < MOST_ROWS as usize {
-            room as u32
-        } else {
-            MOST_ROWS
-        };
         Counts {
-            capacity,
+            capacity: room.min(MOST_ROWS as usize) as u32,
             kept: 0,
             batch: None,
         }
@@ -40,10 +35,7 @@ impl Counts {
     pub fn batch(&self) -> u32
         ensures { result ≡ unwrap_or (figures self.now).batch 0 }
     {
-        match self.batch {
-            Some(rows) => rows,
-            None => 0,
-        }
+        self.batch.unwrap_or(0)
     }
 
     // The number of rows in use: the kept ones and those of the batch.

@@ -7,7 +7,7 @@ ghost use Rattle.imagebook.specs.Sounding.{image_sound};
 
 use super::ImageBook;
 use cashbook::{Book, BookFault, put};
-use rows::{ACCOUNT_LENGTH, Row};
+use rows::{Account, Row};
 
 impl<'a> Book for ImageBook<'a> {
     ghost means = { means_of };
@@ -20,8 +20,7 @@ impl<'a> Book for ImageBook<'a> {
         ensures memory { memory self.new ≡ rewritten (means_of self.old) (opening (means_of self.old)) (memory self.old) }
     {
         let opened = self.counts.opened()?;
-        self.image.put_header(&opened);
-        self.counts = opened;
+        self.tell(opened);
         Ok(())
     }
 
@@ -31,10 +30,8 @@ impl<'a> Book for ImageBook<'a> {
         ensures memory { memory self.new ≡ with_row (means_of self.old) (fields_of row.now) (memory self.old) }
     {
         let added = self.counts.added()?;
-        let at = self.counts.used() as usize;
-        self.image.put_row(at, row);
-        self.image.put_header(&added);
-        self.counts = added;
+        self.write_next(row);
+        self.tell(added);
         Ok(())
     }
 
@@ -45,8 +42,7 @@ impl<'a> Book for ImageBook<'a> {
     {
         let committed = self.counts.committed()?;
         let rows = self.counts.batch();
-        self.image.put_header(&committed);
-        self.counts = committed;
+        self.tell(committed);
         Ok(rows)
     }
 
@@ -57,8 +53,7 @@ impl<'a> Book for ImageBook<'a> {
     {
         let cancelled = self.counts.cancelled()?;
         let rows = self.counts.batch();
-        self.image.put_header(&cancelled);
-        self.counts = cancelled;
+        self.tell(cancelled);
         Ok(rows)
     }
 
@@ -75,25 +70,18 @@ impl<'a> Book for ImageBook<'a> {
     }
 
     fn kept_row(&self, n: u32, into: &mut Row) -> Result<(), BookFault> {
-        let kept = self.counts.kept();
-        if n == 0 || n > kept {
+        if n == 0 || n > self.counts.kept() {
             return Err(BookFault::NoRow);
         }
-        *into = self.image.row(n as usize - 1);
+        *into = self.row(n as usize - 1);
         Ok(())
     }
 
-    fn latest_kept(&self, account: &[u8; ACCOUNT_LENGTH], into: &mut Row) -> bool {
-        put(
-            self.image.latest(self.counts.kept() as usize, account),
-            into,
-        )
+    fn latest_kept(&self, account: &Account, into: &mut Row) -> bool {
+        put(self.latest_of(self.counts.kept() as usize, account), into)
     }
 
-    fn latest(&self, account: &[u8; ACCOUNT_LENGTH], into: &mut Row) -> bool {
-        put(
-            self.image.latest(self.counts.used() as usize, account),
-            into,
-        )
+    fn latest(&self, account: &Account, into: &mut Row) -> bool {
+        put(self.latest_of(self.counts.used() as usize, account), into)
     }
 }

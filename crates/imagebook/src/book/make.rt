@@ -7,7 +7,7 @@ ghost use Rattle.images.specs.Images.{image_capacity, put_header, Exact};
 ghost use Rattle.imagebook.specs.Memory.{memory, means_of, ImagesAreExact};
 
 use super::ImageBook;
-use crate::image::{Image, write_header};
+use super::writing::write_header;
 use cashbook::{BookFault, Counts, test_room};
 use images::HEADER_LENGTH;
 use rowbytes::ROW_LENGTH;
@@ -34,10 +34,7 @@ impl<'a> ImageBook<'a> {
     {
         let counts = empty_counts(bytes.len());
         write_header(bytes, &counts);
-        ImageBook {
-            image: Image { bytes },
-            counts,
-        }
+        ImageBook { bytes, counts }
     }
 
     // Hands the bytes back, exactly those of the book's meaning.
@@ -45,8 +42,7 @@ impl<'a> ImageBook<'a> {
         ensures same { result.now ≡ memory self.entry }
         ensures exact { Exact (means_of self.entry) result.now }
     {
-        let bytes = self.image.bytes;
-        bytes
+        self.bytes
     }
 }
 

@@ -10,6 +10,7 @@ use crate::formed::is_row;
 
 impl Row {
     // The row of a statement of nothing, to be written over by a question.
+    #[tactic(auto, unfolding(crate::specs::Rows::is_row, crate::specs::Rows::fits))]
     pub fn blank() -> Row
         ensures { fields_of result ≡ blank }
     {

@@ -1,13 +1,34 @@
 // The calls of a book on a table.
-ghost use Rattle.std.specs.Prelude.{◌≡◌};
+ghost use Rattle.std.specs.Prelude.{◌≡◌, ◌<◌, true, length, slice_index_or, IfSome};
+ghost use Rattle.std.specs.Option.{option_map};
 ghost use Rattle.rows.specs.Held.{fields_of};
+ghost use Rattle.rows.specs.Rows.{blank, is_row};
 ghost use Rattle.cashbook.specs.Calls.{answer, after, opening, adding, committing, cancelling};
+ghost use Rattle.cashbook.specs.Counting.{figures, used};
 ghost use Rattle.cashbook.specs.Sounding.{counted_sound};
 ghost use Rattle.tablebook.specs.Memory.{means_of, rows_in, places_in, with_row, with_places};
 
 use super::TableBook;
 use cashbook::{Book, BookFault, put};
-use rows::{ACCOUNT_LENGTH, Row};
+use rows::{Account, Fields, Row};
+
+// The row at a place, counted from 0, where the fields of a row stand.
+fn row_at(rows: &[Fields], i: usize) -> Row
+    requires { (i < length rows.now) × (is_row (slice_index_or rows.now i blank) ≡ true) }
+    ensures { fields_of result ≡ slice_index_or rows.now i blank }
+{
+    Row::new(rows[i]).unwrap()
+}
+
+impl<'a> TableBook<'a> {
+    // The row at a place that was found.
+    fn found(&self, place: Option<usize>) -> Option<Row>
+        requires { IfSome place (λ i. i < used (figures self.now.counts)) }
+        ensures { option_map fields_of result ≡ option_map (λ i. slice_index_or (rows_in self.now) i blank) place }
+    {
+        place.map(|i| row_at(self.memory.rows, i))
+    }
+}
 
 impl<'a> Book for TableBook<'a> {
     ghost means = { means_of };
@@ -45,10 +66,7 @@ impl<'a> Book for TableBook<'a> {
     {
         let counts = self.counts.committed()?;
         let rows = self.counts.batch();
-        let kept = self.counts.kept() as usize;
-        let end = counts.kept() as usize;
-        let accounts = self.accounts;
-        self.accounts = self.memory.place(kept, end, accounts);
+        self.memory.keep(counts.kept());
         self.counts = counts;
         Ok(rows)
     }
@@ -78,22 +96,19 @@ impl<'a> Book for TableBook<'a> {
     }
 
     fn kept_row(&self, n: u32, into: &mut Row) -> Result<(), BookFault> {
-        let kept = self.counts.kept();
-        if n == 0 || n > kept {
+        if n == 0 || n > self.counts.kept() {
             return Err(BookFault::NoRow);
         }
-        *into = self.memory.row(n as usize - 1);
+        *into = row_at(self.memory.rows, n as usize - 1);
         Ok(())
     }
 
-    fn latest_kept(&self, account: &[u8; ACCOUNT_LENGTH], into: &mut Row) -> bool {
-        let kept = self.counts.kept() as usize;
-        put(self.memory.latest_kept(kept, self.accounts, account), into)
+    fn latest_kept(&self, account: &Account, into: &mut Row) -> bool {
+        put(self.found(self.memory.latest_kept(account)), into)
     }
 
-    fn latest(&self, account: &[u8; ACCOUNT_LENGTH], into: &mut Row) -> bool {
-        let kept = self.counts.kept() as usize;
+    fn latest(&self, account: &Account, into: &mut Row) -> bool {
         let used = self.counts.used() as usize;
-        put(self.memory.latest(kept, used, self.accounts, account), into)
+        put(self.found(self.memory.latest(used, account)), into)
     }
 }

@@ -32,9 +32,13 @@ impl<'a> TableBook<'a> {
     {
         let counts = empty_counts(rows, places);
         TableBook {
-            memory: Memory { rows, places },
+            memory: Memory {
+                rows,
+                places,
+                kept: 0,
+                accounts: 0,
+            },
             counts,
-            accounts: 0,
         }
     }
 

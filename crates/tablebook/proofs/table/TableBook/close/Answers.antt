@@ -13,5 +13,5 @@ returns c =
     record {
       same = (refl, refl);
       rows = ap (λ n. take n (rows_in s)) long ∙ sym (all_counted s.counts.capacity s.counts.kept (rows_in s) s.counts.batch);
-      places = ap (λ n. take n (places_in s)) (sym s.step.0) ∙ s.step.1;
+      places = rw (← s.kept) (ap (λ n. take n (places_in s)) (sym s.memory.step.0) ∙ s.memory.step.1);
     }

@@ -7,7 +7,7 @@ use Rattle.imagebook.proofs.book.calls.ImageBookBook.free.Goals as goal
 pub returns : goal.returns
 returns c =
     let s = c.args.self.now in
-    let long = rows_long s.counts.capacity s.image.bytes.now in
+    let long = rows_long s.counts.capacity s.bytes.now in
     let room = s.counts.room in
-    let told = counted_free s.counts.capacity s.counts.kept (image_rows s.counts.capacity s.image.bytes.now) s.counts.batch (omega arith) in
+    let told = counted_free s.counts.capacity s.counts.kept (image_rows s.counts.capacity s.bytes.now) s.counts.batch (omega arith) in
     cc
