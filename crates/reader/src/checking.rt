@@ -8,7 +8,7 @@ ghost use Rattle.reader.specs.Reads.{FetchedAs};
 
 use crate::state::State;
 use grammar::{Counts, FileFault, Located, SourceFault};
-use recordbytes::RECORD_LENGTH;
+use recordbytes::{RECORD_LENGTH, RecordBytes};
 use source::{NoRecord, Source};
 
 // The most slots that a file may have.
@@ -18,7 +18,7 @@ pub const MOST_SLOTS: usize = 100_000;
 fn read<S: Source>(
     source: &mut S,
     slot: usize,
-    out: &mut [u8; RECORD_LENGTH],
+    out: &mut RecordBytes,
 ) -> Result<(), SourceFault>
     requires { (0 < slot) × (slot ≤ length (S.Source.slots source.old)) }
     ensures reads { FetchedAs slot (slot_at (S.Source.slots source.old) slot) out.new result }

@@ -4,11 +4,11 @@ ghost use Rattle.source.specs.Slots.{judge};
 ghost use Rattle.source.specs.Fetching.{answer, left_in};
 
 use crate::source::{Damage, NoRecord, TOO_LONG, TOO_SHORT};
-use recordbytes::RECORD_LENGTH;
+use recordbytes::{RECORD_LENGTH, RecordBytes};
 use std::cmp::Ordering;
 
 // Puts the bytes of a slot into `out` if they are a record.
-pub fn deliver(bytes: &[u8], out: &mut [u8; RECORD_LENGTH]) -> Result<(), NoRecord>
+pub fn deliver(bytes: &[u8], out: &mut RecordBytes) -> Result<(), NoRecord>
     ensures answers { result ≡ answer (Some (judge bytes.now)) }
     ensures writes { out.new ≡ left_in (Some (judge bytes.now)) out.old }
 {

@@ -7,7 +7,7 @@ use self::cut::first_line;
 use crate::deliver::deliver;
 use crate::places::place_of;
 use crate::source::{NoRecord, Source};
-use recordbytes::RECORD_LENGTH;
+use recordbytes::RecordBytes;
 
 mod cut;
 mod make;
@@ -64,7 +64,7 @@ impl Source for Lines<'_> {
         self.count
     }
 
-    fn fetch(&mut self, n: usize, out: &mut [u8; RECORD_LENGTH]) -> Result<(), NoRecord> {
+    fn fetch(&mut self, n: usize, out: &mut RecordBytes) -> Result<(), NoRecord> {
         self.seek(place_of(n, self.count)?);
         deliver(self.pass(), out)
     }

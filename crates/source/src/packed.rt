@@ -6,7 +6,7 @@ ghost use Rattle.source.specs.Judging.{judged_sound};
 use crate::deliver::deliver;
 use crate::places::place_of;
 use crate::source::{NoRecord, Source};
-use recordbytes::RECORD_LENGTH;
+use recordbytes::{RECORD_LENGTH, RecordBytes};
 
 mod make;
 
@@ -37,7 +37,7 @@ impl Source for Packed<'_> {
         self.file.len().div_ceil(RECORD_LENGTH)
     }
 
-    fn fetch(&mut self, n: usize, out: &mut [u8; RECORD_LENGTH]) -> Result<(), NoRecord> {
+    fn fetch(&mut self, n: usize, out: &mut RecordBytes) -> Result<(), NoRecord> {
         let place = place_of(n, self.count())?;
         deliver(self.piece(place), out)
     }

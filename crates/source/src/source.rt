@@ -4,7 +4,7 @@ ghost use Rattle.std.specs.List.{AllByRecursion};
 ghost use Rattle.source.specs.Slots.{Slot, Sound, slot_at};
 ghost use Rattle.source.specs.Fetching.{answer, left_in};
 
-use recordbytes::RECORD_LENGTH;
+use recordbytes::RecordBytes;
 use std::fmt;
 
 // The cause of a slot that has fewer bytes than a record.
@@ -49,7 +49,7 @@ pub trait Source {
         ensures { result ≡ length (slots self.now) };
 
     // Puts the record of slot `n` into the caller's bytes, which stay as they are where there is none: no record is kept on a heap.
-    fn fetch(&mut self, n: usize, out: &mut [u8; RECORD_LENGTH]) -> Result<(), NoRecord>
+    fn fetch(&mut self, n: usize, out: &mut RecordBytes) -> Result<(), NoRecord>
         ensures answers { result ≡ answer (slot_at (slots self.old) n) }
         ensures writes { out.new ≡ left_in (slot_at (slots self.old) n) out.old }
         ensures same { slots self.new ≡ slots self.old };
