@@ -1,6 +1,6 @@
 // The lines of a script, and what their texts write.
 use rowbytes::{ROW_LENGTH, read_row};
-use rows::{ACCOUNT_LENGTH, Row};
+use rows::{Account, Row};
 
 // A call of a book, with what is written behind its name.
 #[derive(Clone, Copy)]
@@ -43,6 +43,6 @@ pub fn row_of(text: &str) -> Option<Row> {
 }
 
 // The account that a text is, where it has the length of one.
-pub fn account_of(text: &str) -> Option<&[u8; ACCOUNT_LENGTH]> {
+pub fn account_of(text: &str) -> Option<&Account> {
     text.as_bytes().as_array()
 }

@@ -2,7 +2,7 @@
 use Rattle.std.proofs.Common.{◌≡◌, ℕ, ◌+◌, Bool, false, cond, eqb, List, [], ◌∷◌, replicate, pos, codes}
 use Rattle.recordbytes.specs.Numbers.{digits}
 use Rattle.values.specs.Money.{debit, signed}
-use Rattle.rendering.specs.Rendering.{joined}
+use Rattle.recordbytes.specs.Joins.{joined}
 use Rattle.grammar.specs.Leaves.{Leaf, Formed, old_balance, movement, information, new_balance, free_communication, trailer}
 use Rattle.grammar.specs.Fields.{sequence, detail, reference, next, link, is_debit, amount, signed_amount, type, level, old_account, old_amount, new_account, new_amount, count, debit_sum, credit_sum, another}
 

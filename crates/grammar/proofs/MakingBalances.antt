@@ -5,7 +5,8 @@ use Rattle.recordbytes.specs.Spans.{span}
 use Rattle.values.specs.Money.{is_sign, signed}
 use Rattle.layout.specs.Layouts.{layout, first_misformed}
 use Rattle.layout.specs.declared.kind.Kind.TheVariants.{NewBalance}
-use Rattle.rendering.specs.Rendering.{joined, Parts, none, ◌then◌}
+use Rattle.recordbytes.specs.Joins.{joined}
+use Rattle.rendering.specs.Rendering.{Parts, none, ◌then◌}
 use Rattle.rendering.proofs.Parting.{written, part_back}
 use Rattle.grammar.specs.Leaves.{Formed, header}
 use Rattle.grammar.proofs.Made.{header_made, old_balance_made, OldBalanceMade, new_balance_parts, new_balance_made, NewBalanceMade}

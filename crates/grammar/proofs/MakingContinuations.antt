@@ -4,7 +4,8 @@ use Rattle.recordbytes.specs.Numbers.{digits}
 use Rattle.recordbytes.specs.Spans.{span}
 use Rattle.layout.specs.Layouts.{layout}
 use Rattle.layout.specs.declared.kind.Kind.TheVariants.{MovementSecond, Counterparty, InformationSecond, InformationThird}
-use Rattle.rendering.specs.Rendering.{joined, Parts, none, ◌then◌}
+use Rattle.recordbytes.specs.Joins.{joined}
+use Rattle.rendering.specs.Rendering.{Parts, none, ◌then◌}
 use Rattle.rendering.proofs.Parting.{written, part_back}
 use Rattle.grammar.specs.Leaves.{Leaf, Formed, movement_second, counterparty, information_second, information_third}
 use Rattle.grammar.proofs.Made.{flag, ContinuationMade, movement_second_parts, movement_second_made, counterparty_parts, counterparty_made, information_second_parts, information_second_made, information_third_parts, information_third_made}

@@ -3,7 +3,8 @@ use Rattle.std.proofs.Common.{◌≡◌, ℕ, ◌^◌, ◌<◌, Bool, true, fals
 use Rattle.layout.specs.Forms.{is_one_of}
 use Rattle.layout.specs.Layouts.{layout}
 use Rattle.layout.specs.declared.kind.Kind.TheVariants.{FreeCommunication, Trailer}
-use Rattle.rendering.specs.Rendering.{joined, Parts, none, ◌then◌}
+use Rattle.recordbytes.specs.Joins.{joined}
+use Rattle.rendering.specs.Rendering.{Parts, none, ◌then◌}
 use Rattle.rendering.proofs.Parting.{written, part_back}
 use Rattle.grammar.proofs.Made.{single, free_communication_parts, free_communication_made, FreeCommunicationMade, trailer_parts, trailer_made, TrailerMade}
 use Rattle.grammar.proofs.Making.{no_field, number_part, flag_part, number_read, first_byte, flag_read}

@@ -2,7 +2,8 @@
 use Rattle.std.proofs.Common.{ℕ, ◌<◌, Bool, List, refl, lit<}
 use Rattle.layout.specs.Layouts.{layout}
 use Rattle.layout.specs.declared.kind.Kind.TheVariants.{Information}
-use Rattle.rendering.specs.Rendering.{joined, Parts, ◌then◌}
+use Rattle.recordbytes.specs.Joins.{joined}
+use Rattle.rendering.specs.Rendering.{Parts, ◌then◌}
 use Rattle.rendering.proofs.Parting.{written, part_back}
 use Rattle.grammar.proofs.Made.{information_parts, information_made, InformationMade}
 use Rattle.grammar.proofs.Making.{PlainBytes, no_field, number_part, text_part, codes_parts, number_read, flag_read}

@@ -3,7 +3,8 @@ use Rattle.std.proofs.Common.{◌≡◌, ℕ, ◌^◌, ◌<◌, ◌≤◌, Bool,
 use Rattle.values.specs.Money.{debit, is_sign, signed}
 use Rattle.layout.specs.Layouts.{layout}
 use Rattle.layout.specs.declared.kind.Kind.TheVariants.{Movement}
-use Rattle.rendering.specs.Rendering.{joined, Parts, ◌then◌}
+use Rattle.recordbytes.specs.Joins.{joined}
+use Rattle.rendering.specs.Rendering.{Parts, ◌then◌}
 use Rattle.rendering.proofs.Parting.{written, part_back}
 use Rattle.grammar.specs.Fields.{amount}
 use Rattle.grammar.proofs.Made.{zeros, movement_parts, movement_made, MovementMade}

@@ -3,4 +3,3 @@ pub mod Spanning
 pub mod Numbering
 pub mod Writing
 pub mod Each
-pub mod Joining

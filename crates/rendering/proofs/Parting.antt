@@ -6,7 +6,8 @@ use Rattle.recordbytes.specs.Spans.{span}
 use Rattle.layout.specs.Forms.{holds}
 use Rattle.layout.specs.Layouts.{Field, layout, bytes_of, is_formed, first_misformed_of, first_misformed, tiles}
 use Rattle.layout.specs.declared.kind.Kind.{Kind}
-use Rattle.rendering.specs.Rendering.{joined, Parts, none, ◌then◌, Conforms}
+use Rattle.recordbytes.specs.Joins.{joined}
+use Rattle.rendering.specs.Rendering.{Parts, none, ◌then◌, Conforms}
 use Rattle.rendering.proofs.Tiling.{first_tile, layouts_tile}
 
 -- the part behind what comes first, where that is as long as its position says

@@ -1,19 +1,15 @@
 -- Records written from their parts.
---   joined     the parts one behind the other
 --   Part       bytes as wide as a field and of its form
 --   Parts      a part for each field
 --   Conforms   128 bytes of which every field is of its form
-use Rattle.std.specs.Prelude.{◌≡◌, ℕ, ◌+◌, ◌<◌, true, List, [], ◌∷◌, ◌++◌, length, Some, None, slice_index_or}
+use Rattle.std.specs.Prelude.{◌≡◌, ℕ, ◌+◌, ◌<◌, true, List, [], ◌∷◌, length, Some, None, slice_index_or}
 use Rattle.recordbytes.specs.Classes.{is_plain}
+use Rattle.recordbytes.specs.Joins.{joined}
 use Rattle.recordbytes.specs.Walks.{first_failing}
 use Rattle.layout.specs.Forms.{holds}
 use Rattle.layout.specs.Kinds.{kind_of}
 use Rattle.layout.specs.Layouts.{Field, layout, bytes_of, is_formed, first_misformed}
 use Rattle.layout.specs.declared.kind.Kind.{Kind}
-
-abbrev pub joined : List (List ℕ) → List ℕ
-joined [] = []
-joined (p ∷ ps) = p ++ joined ps
 
 abbrev pub Part : Field → List ℕ → Type 0
 Part f p = (f.first + length p ≡ f.last + 1) × (holds f.form p ≡ true)
