@@ -15,11 +15,7 @@ use source::{NoRecord, Source};
 pub const MOST_SLOTS: usize = 100_000;
 
 // Reads a slot that is there into `out`.
-fn read<S: Source>(
-    source: &mut S,
-    slot: usize,
-    out: &mut RecordBytes,
-) -> Result<(), SourceFault>
+fn read<S: Source>(source: &mut S, slot: usize, out: &mut RecordBytes) -> Result<(), SourceFault>
     requires { (0 < slot) × (slot ≤ length (S.Source.slots source.old)) }
     ensures reads { FetchedAs slot (slot_at (S.Source.slots source.old) slot) out.new result }
     ensures same { S.Source.slots source.new ≡ S.Source.slots source.old }
