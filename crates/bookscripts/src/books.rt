@@ -18,6 +18,7 @@ pub fn report_script(
 ) -> io::Result<()> {
     let capacity = settings.capacity.0;
     println!(rt; "{path}: {}, {}", settings.book, RowCount(capacity))?;
+    // each is made on memory of its own, so a closure that makes it would only move this match
     match settings.book {
         BookKind::Image => run_on_image(rt, script, capacity),
         BookKind::Table => run_on_table(rt, script, capacity),

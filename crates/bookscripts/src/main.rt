@@ -1,4 +1,5 @@
 // Runs the calls of scripts on cash books: `bookscripts [--image | --table] [--capacity N] SCRIPT...`.
+// The frame is that of the program counter: said for both in a crate, with its texts handed in, it would be no shorter.
 #![tactic(auto)]
 
 mod answers;

@@ -10,7 +10,7 @@ use tablebook::TableBook;
 
 const ACCOUNT: Account = *b"2BE68539007547034                  EUR";
 
-// The number of a refusal, 0 for none.
+// The number of a refusal, 0 for none: an Option would say no more where each answer is compared with a number.
 fn refusal(answer: Result<(), BookFault>) -> usize {
     answer.err().map_or(0, |fault| fault_number(fault))
 }

@@ -10,6 +10,8 @@ ghost use Rattle.grammar.specs.Fields.{byte_at, is_one, signed_amount, old_amoun
 use recordbytes::{RecordBytes, number_at, span};
 use values::signed;
 
+// What bounds a number is a clause and no type: all who call these functions add or compare the plain number.
+
 // The number of bytes of a bank's reference.
 pub const REFERENCE_LENGTH: usize = 21;
 

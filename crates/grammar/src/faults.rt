@@ -21,6 +21,7 @@ pub enum RecordFault {
 }
 
 // With a record where it stands: by itself, one that may not come here, a wrong number, wrong money, each at a position.
+// A position and no enum of fields: it is what is answered, and it decides which of two faults is further left.
 #[derive(Clone, Copy, PartialEq, Eq, Debug)]
 pub enum StatementFault {
     Record(RecordFault),

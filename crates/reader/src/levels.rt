@@ -1,4 +1,4 @@
-// The open levels, as a mask with a bit for each of 1 to 9.
+// The open levels, as a mask with a bit for each of 1 to 9: a set without a heap.
 ghost use Rattle.std.specs.Prelude.{◌<◌};
 
 use fields::level;

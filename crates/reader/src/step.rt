@@ -36,7 +36,7 @@ fn with_form(
 }
 
 impl Taking<'_> {
-    // What a record of a kind that may come does.
+    // What a record of a kind that may come does: a match and no table of closures, since each kind has its own contract.
     fn take_kind(&self, kind: Kind) -> Result<Standing, StatementFault>
         ensures { meant result ≡ take_kind (place_of self.now.standing.now) kind self.now.bytes.now }
     {

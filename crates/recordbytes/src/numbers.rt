@@ -8,7 +8,8 @@ use crate::spans::span;
 // The most digits that a field has.
 pub const MOST_DIGITS: usize = 15;
 
-// The number in the first fifteen digits, which are all that a field has.
+// The number in the first fifteen digits, which are all that a field has. Its bound is a clause and no type,
+// since all who call this add or compare the plain number.
 pub fn number(digits: &[u8]) -> u64
     ensures value { result ≡ value_of (take 15 digits.now) }
     ensures whole { length digits.now ≤ 15 → result ≡ value_of digits.now }

@@ -8,7 +8,7 @@ pub enum Rank {
     Detail,
 }
 
-// The fields of a movement row, as records write them.
+// The fields of a movement row, as records write them: sign and flag are bytes, so that any byte has room.
 #[derive(Clone, Copy, Debug, PartialEq, Eq)]
 pub struct MovementFields {
     pub rank: Rank,

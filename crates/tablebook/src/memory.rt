@@ -7,7 +7,7 @@ ghost use Rattle.tablebook.specs.Held.{InStep, placed};
 
 use rows::{Account, Fields, is_of};
 
-// The first places are those of the accounts of the kept rows.
+// The first places are those of the accounts of the kept rows. Both lists are the caller's, by a rule of the project.
 #[derive(Drop)]
 pub struct Memory<'a> {
     pub rows: &'a mut [Fields],
