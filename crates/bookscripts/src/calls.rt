@@ -27,7 +27,7 @@ pub fn run_calls<B: Book>(rt: &HostRuntime, book: &mut B, script: &str) -> io::R
     Ok(())
 }
 
-// What the book answers to a call.
+// What the book answers to a call: a match and no table of closures, since each call has an argument of its own.
 fn answer<B: Book>(book: &mut B, call: Option<Call<'_>>) -> Result<Answer, Trouble> {
     match call.ok_or(Trouble::UnknownCall)? {
         Call::Open => {

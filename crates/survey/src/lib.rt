@@ -11,7 +11,8 @@ use layout::{KIND_COUNT, Kind, kind_of};
 use recordbytes::{RECORD_LENGTH, RecordBytes};
 use source::{NoRecord, Source};
 
-// What a slot holds: a record of a kind, a record of no known kind, or a damage.
+// What a slot holds: a record of a kind, a record of no known kind, or a damage. It is counted by these three,
+// which an Option of a kind in a Result would only wrap.
 #[derive(Clone, Copy, PartialEq, Eq, Debug)]
 pub enum Sort {
     Record(Kind),
