@@ -60,7 +60,7 @@ pub enum Word {
     Script,
 }
 
-// A word that looks like an option and is none.
+// A word that looks like an option and is none, as in the program counter.
 #[derive(Clone, Copy, PartialEq, Eq, Debug)]
 pub struct UnknownOption;
 

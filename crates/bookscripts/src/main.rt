@@ -1,5 +1,5 @@
 // Runs the calls of scripts on cash books: `bookscripts [--image | --table] [--capacity N] SCRIPT...`.
-// The frame is that of the program counter: said for both in a crate, with its texts handed in, it would be no shorter.
+// The frame is that of the program counter. No plainer in a crate for both programs: each shared function would take the program's name, its usage and its noun.
 #![tactic(auto)]
 
 mod answers;
@@ -55,9 +55,7 @@ fn word_of(rt: &HostRuntime, text: &str) -> anyhow::Result<Word> {
 
 // The capacity that a word is; where it is none, that is told, and the run ends.
 fn capacity_of(rt: &HostRuntime, word: Option<String>) -> anyhow::Result<Capacity> {
-    let Some(text) = word else {
-        return Err(anyhow!(USAGE));
-    };
+    let text = word.ok_or_else(|| anyhow!(USAGE))?;
     match text.as_str().parse::<Capacity>() {
         Ok(capacity) => Ok(capacity),
         Err(NoCapacity) => {

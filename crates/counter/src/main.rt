@@ -1,4 +1,5 @@
 // The counter program: `counter check [--packed | --lines] FILE...`.
+// The frame is that of the program bookscripts. No plainer in a crate for both programs: each shared function would take the program's name, its usage and its noun.
 #![tactic(auto)]
 
 mod arguments;

@@ -10,6 +10,7 @@ use std::io;
 use survey::{Sort, Survey, survey_of};
 
 pub fn report_file(rt: &HostRuntime, path: &str, file: &[u8], cutting: Cutting) -> io::Result<()> {
+    // each source is a type of its own, so a closure that makes it would only move this choice
     if cutting.is_in_lines(file) {
         report_source(rt, path, "in lines", &mut Lines::new(file))
     } else {

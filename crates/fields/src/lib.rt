@@ -1,16 +1,16 @@
 // What records say, read by position, whatever their bytes are.
 #![tactic(auto)]
 
-ghost use Rattle.std.specs.Prelude.{◌≡◌, ◌+◌, ◌^◌, ◌<◌, ◌≤◌, length, unsigned_abs};
+ghost use Rattle.std.specs.Prelude.{◌≡◌, ◌+◌, ◌^◌, ◌<◌, ◌≤◌, unsigned_abs};
 ghost use Rattle.recordbytes.specs.Numbers.{value as value_of};
 ghost use Rattle.recordbytes.specs.Spans.{span as span_of};
 ghost use Rattle.values.specs.Money.{signed as signed_of};
-ghost use Rattle.grammar.specs.Fields.{byte_at, is_one, signed_amount, old_amount, new_amount, digit_of, sequence, detail, reference, next, link, is_debit, amount, type, level, old_account, new_account, count, debit_sum, credit_sum, another};
+ghost use Rattle.grammar.specs.Fields.{byte_at, signed_amount, old_amount, new_amount, digit_of, sequence, detail, reference, next, link, is_debit, amount, type, level, old_account, new_account, count, debit_sum, credit_sum, another};
 
 use recordbytes::{RecordBytes, number_at, span};
 use values::signed;
 
-// What bounds a number is a clause and no type: all who call these functions add or compare the plain number.
+// What bounds a number is a clause and no type: all who call these functions go on with a plain number.
 
 // The number of bytes of a bank's reference.
 pub const REFERENCE_LENGTH: usize = 21;

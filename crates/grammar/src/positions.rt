@@ -20,5 +20,6 @@ pub const NEW_BALANCE: usize = 43;
 pub const TYPE: usize = 54;
 
 pub const LEVEL: usize = 125;
+
 // the link code; the next code stands two positions before
 pub const CODES: usize = 128;

@@ -7,7 +7,7 @@ ghost use Rattle.images.specs.Headers.{four_bytes, row_offset, header_numbers, h
 use cashbook::Counts;
 use rowbytes::ROW_LENGTH;
 
-// The numbers of a header, an array since each is written alike.
+// How many numbers a header has: an array of them and no struct, since each is written alike.
 const NUMBERS: usize = 8;
 
 // The bytes of a header.

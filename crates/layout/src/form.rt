@@ -43,8 +43,7 @@ pub fn holds(form: Form, bytes: &[u8]) -> bool
         Form::Spaces => all_inside::<Space>(bytes),
         Form::Day => is_day(bytes),
         Form::DayOrZeros => is_day(bytes) || bytes == b"000000".as_slice(),
-        Form::Sign => is_one_of(bytes, b"01"),
-        Form::Flag => is_one_of(bytes, b"01"),
+        Form::Sign | Form::Flag => is_one_of(bytes, b"01"),
         Form::Is(text) => bytes == text,
         Form::OneOf(choices) => is_one_of(bytes, choices),
     }

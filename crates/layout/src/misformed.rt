@@ -20,6 +20,7 @@ fn is_formed(field: &Field, bytes: &[u8]) -> bool
 pub fn first_misformed_of(fields: &[Field], bytes: &[u8]) -> Option<usize>
     ensures { result ≡ first_misformed_of (map field_of fields.now) bytes.now }
 {
+    // a loop and no `find`, whose proof needs a law of the leftmost field that the loop does without
     for field in fields {
         if !is_formed(field, bytes) {
             return Some(field.0);

@@ -52,7 +52,7 @@ pub fn behind_trailer(another: bool) -> Expect
     if another { Expect::Header } else { Expect::End }
 }
 
-// This and the next two are functions, since their clauses say which place the rules mean.
+// The three tests below are functions and no bare ==, since their clauses say which place the rules mean.
 
 // Right behind an old balance.
 pub fn is_opened(expect: Expect) -> bool

@@ -20,6 +20,7 @@ fn read<S: Source>(source: &mut S, slot: usize, out: &mut RecordBytes) -> Result
     ensures reads { FetchedAs slot (slot_at (S.Source.slots source.old) slot) out.new result }
     ensures same { S.Source.slots source.new ≡ S.Source.slots source.old }
 {
+    // no `map_err`, since a closure does not know that the slot is there
     match source.fetch(slot, out) {
         Ok(()) => Ok(()),
         Err(NoRecord::Damaged(damage)) => Err(SourceFault { slot, damage }),

@@ -12,7 +12,7 @@ pub(crate) struct Numbers {
     pub(crate) sequence: u64,
     pub(crate) detail: u64,
     pub(crate) reference: [u8; REFERENCE_LENGTH],
-    // the type of the main movement: the digit of its record and no enum, since ten digits may stand there
+    // the type of the main movement: a digit and no enum, since the rules compare it as one; 0 before there is any
     pub(crate) main_type: u64,
     // whether a detail of type 7 has come under it
     pub(crate) seven: bool,

@@ -9,7 +9,7 @@ use crate::spans::span;
 pub const MOST_DIGITS: usize = 15;
 
 // The number in the first fifteen digits, which are all that a field has. Its bound is a clause and no type,
-// since all who call this add or compare the plain number.
+// since all who call this go on with a plain number.
 pub fn number(digits: &[u8]) -> u64
     ensures value { result ≡ value_of (take 15 digits.now) }
     ensures whole { length digits.now ≤ 15 → result ≡ value_of digits.now }
@@ -26,7 +26,7 @@ fn number_of_few(digits: &[u8]) -> u64
 {
     let mut number: u64 = 0;
     for byte in digits {
-        number = number * 10 + byte.saturating_sub(b'0') as u64;
+        number = number * 10 + u64::from(byte.saturating_sub(b'0'));
     }
     number
 }
@@ -44,6 +44,7 @@ pub fn write_digits(out: &mut [u8], number: u64)
     ensures { out.new ≡ digits_of (length out.old) number }
 {
     let mut rest = number;
+    // by places, since behind `iter_mut().rev()` nothing is known of the elements
     for i in (0..out.len()).rev() {
         out[i] = (rest % 10) as u8 + b'0';
         rest /= 10;

@@ -5,7 +5,8 @@ ghost use Rattle.rowbytes.specs.RowBytes.{held, padded as padded_of};
 
 use crate::ROW_LENGTH;
 
-// Puts the parts one behind the other at the front of some bytes.
+// Puts the parts one behind the other at the front of some bytes. A loop over what `split_at_mut` leaves would say
+// nothing of the bytes afterwards.
 fn put_parts(parts: &[&[u8]], out: &mut [u8])
     requires { length (joined (held parts.now)) ≤ length out.old }
     ensures { out.new ≡ joined (held parts.now) ++ drop (length (joined (held parts.now))) out.old }

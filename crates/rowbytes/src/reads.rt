@@ -21,7 +21,7 @@ fn part<const N: usize>(bytes: &[u8; ROW_LENGTH], first: usize) -> [u8; N]
     *span(bytes, first, first - 1 + N).first_chunk().unwrap()
 }
 
-// The rank that the first byte of a movement means. No From says it, since the rank is of another crate and the byte of this one.
+// The rank that the first byte of a movement means. No From: the rank is of crate rows, and which byte means it is decided here.
 fn rank(byte: u8) -> Rank
     ensures { result ≡ rank_of byte }
 {

@@ -12,7 +12,7 @@ use recordbytes::write_digits;
 use rows::{Fields, MovementFields, Rank, Row, StatementFields};
 use values::Money;
 
-// The first byte of a movement. No From says it, since the rank is of another crate and the byte of this one.
+// The first byte of a movement. No From: the rank is of crate rows, and which byte means it is decided here.
 fn letter(rank: Rank) -> u8
     ensures { result ≡ letter_of rank }
 {

@@ -8,7 +8,8 @@ pub enum Rank {
     Detail,
 }
 
-// The fields of a movement row, as records write them: sign and flag are bytes, so that any byte has room.
+// The fields of a movement row, as records write them. Sign and flag are bytes and no enums, since a row is read
+// before it is tested.
 #[derive(Clone, Copy, Debug, PartialEq, Eq)]
 pub struct MovementFields {
     pub rank: Rank,

@@ -22,6 +22,7 @@ impl<'a> Packed<'a> {
         requires { before < length (pieces self.now.file.now) }
         ensures { result.now ≡ slice_index_or (pieces self.now.file.now) before [] }
     {
+        // by its place, since `chunks(..).nth(..)` walks all pieces before it
         let rest = &self.file[before * RECORD_LENGTH..];
         let stop = rest.len().min(RECORD_LENGTH);
         &rest[..stop]

@@ -1,5 +1,5 @@
 // The places of slots.
-ghost use Rattle.std.specs.Prelude.{◌≡◌, ◌+◌, ◌<◌, ◌≤◌, ◌⊎◌, MatchResult};
+ghost use Rattle.std.specs.Prelude.{◌≡◌, ◌+◌, ◌<◌, ◌⊎◌, MatchResult};
 ghost use Rattle.source.specs.declared.source.NoRecord.TheVariants.{Absent};
 
 use crate::source::NoRecord;

@@ -21,11 +21,11 @@ pub struct Damage {
 
 impl fmt::Display for Damage {
     fn fmt<W: fmt::Write>(&self, f: &mut fmt::Formatter<W>) -> fmt::Result {
-        match self.cause {
-            TOO_SHORT => write!(f, "shorter than a record"),
-            TOO_LONG => write!(f, "longer than a record"),
-            _ => write!(f, "damaged"),
-        }
+        f.write_str(match self.cause {
+            TOO_SHORT => "shorter than a record",
+            TOO_LONG => "longer than a record",
+            _ => "damaged",
+        })
     }
 }
 
@@ -48,7 +48,7 @@ pub trait Source {
     fn count(&self) -> usize
         ensures { result ≡ length (slots self.now) };
 
-    // Puts the record of slot `n` into the caller's bytes, which stay as they are where there is none: no record is kept on a heap.
+    // Puts the record of slot `n` into the caller's bytes, by a rule of the project; where there is none, they stay as they are.
     fn fetch(&mut self, n: usize, out: &mut RecordBytes) -> Result<(), NoRecord>
         ensures answers { result ≡ answer (slot_at (slots self.old) n) }
         ensures writes { out.new ≡ left_in (slot_at (slots self.old) n) out.old }

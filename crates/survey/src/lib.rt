@@ -1,7 +1,7 @@
 // What the slots of a source hold, counted by sort.
 #![tactic(auto)]
 
-ghost use Rattle.std.specs.Prelude.{◌≡◌, ℕ, ◌+◌, ◌^◌, ◌<◌, length, if◌then◌else◌, ◌≢◌, Err};
+ghost use Rattle.std.specs.Prelude.{◌≡◌, ◌+◌, ◌^◌, ◌<◌, if◌then◌else◌, ◌≢◌, Err};
 ghost use Rattle.source.specs.declared.source.NoRecord.TheVariants.{Absent};
 ghost use Rattle.survey.specs.declared.Sort.{Sort as SortOf};
 ghost use Rattle.survey.specs.Sorts.{is_same, tally, count_in};

@@ -1,5 +1,5 @@
 // Which six bytes are a day, and which of two days is the earlier.
-ghost use Rattle.std.specs.Prelude.{◌≡◌, ◌+◌, ◌^◌, ◌<◌, ◌≤◌};
+ghost use Rattle.std.specs.Prelude.{◌≡◌, ◌^◌, ◌<◌};
 ghost use Rattle.values.specs.Days.{full_year, date_of, is_leap, days_of_month, is_date, is_day, is_earlier};
 
 use recordbytes::{Digit, all_inside, number_at};

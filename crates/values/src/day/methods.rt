@@ -16,9 +16,9 @@ impl Day {
         if !is_day(bytes) {
             return None;
         }
-        let mut six = [0; 6];
-        six.copy_from_slice(bytes);
-        Some(Day { bytes: six })
+        Some(Day {
+            bytes: *bytes.as_array()?,
+        })
     }
 
     // The six bytes, DDMMYY.
@@ -29,8 +29,8 @@ impl Day {
         self.bytes
     }
 
-    // Whether this day is before the other. There is no Ord: it would have to agree with ==, and that two days
-    // of one date are the same bytes is proved by tactics, which the laws of a trait may not call.
+    // Whether this day is before the other. A method and no Ord: the bytes are not in the order of the days, so that
+    // no derive gives it, and all laws of Ord by hand would be longer than this one question.
     pub fn is_before(&self, other: &Day) -> bool
         ensures { result ≡ is_earlier (day_bytes self.now) (day_bytes other.now) }
     {
