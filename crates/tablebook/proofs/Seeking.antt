@@ -1,5 +1,5 @@
 -- The last statement row of an account among rows, sought from the end.
-use Rattle.std.proofs.Common.{◌≡◌, ℕ, zero, suc, ◌+◌, ◌-◌, ◌<◌, ◌≤◌, true, false, List, [], ◌∷◌, ◌++◌, length, get_or, take, drop, Some, None, Option, sym, refl, ap, ◌∙◌, take-add, arith}
+use Rattle.std.proofs.Common.{◌≡◌, ℕ, zero, suc, ◌+◌, ◌-◌, ◌<◌, ◌≤◌, true, false, List, [], ◌∷◌, ◌++◌, length, get_or, take, drop, Some, None, Option, sym, refl, ap, ◌∙◌, subst, take-add, arith}
 use Rattle.std.specs.Bool.{then_some}
 use Rattle.std.proofs.lemmas.List.{length-take-le, get_or-take}
 use Rattle.std.specs.Option.{MatchOption, IfSome, option_or, option_map}
@@ -66,11 +66,21 @@ module _ (account : List ℕ) (rows : List Fields) (start end : ℕ) (less : sta
       ∙ (last_joined account (take start rows) (take (end - start) (drop start rows))
       ∙ ap (λ n. option_or (option_map (λ i. n + i) (last_place account (take (end - start) (drop start rows)))) (last_place account (take start rows))) long))
 
-  pub last_behind : (i : ℕ) → Some i ≡ last_place account (take (end - start) (drop start rows)) → Some (start + i) ≡ last_place account (take end rows)
+  last_behind : (i : ℕ) → Some i ≡ last_place account (take (end - start) (drop start rows)) → Some (start + i) ≡ last_place account (take end rows)
   last_behind i e = sym (joined ∙ ap (λ (o : Option ℕ). option_or (option_map (λ i. start + i) o) (last_place account (take start rows))) (sym e))
 
-  pub last_before : None ≡ last_place account (take (end - start) (drop start rows)) → last_place account (take start rows) ≡ last_place account (take end rows)
+  last_before : None ≡ last_place account (take (end - start) (drop start rows)) → last_place account (take start rows) ≡ last_place account (take end rows)
   last_before e = sym (joined ∙ ap (λ (o : Option ℕ). option_or (option_map (λ i. start + i) o) (last_place account (take start rows))) (sym e))
+
+  -- found behind the first ones, else among them
+  pub last_of_both :
+      (found there r : Option ℕ)
+      → found ≡ last_place account (take (end - start) (drop start rows))
+      → MatchOption found (there ≡ None) (λ i. there ≡ Some (start + i))
+      → MatchOption there (r ≡ last_place account (take start rows)) (λ i. r ≡ Some i)
+      → r ≡ last_place account (take end rows)
+  last_of_both None there r e told given = subst (λ (o : Option ℕ). MatchOption o (r ≡ last_place account (take start rows)) (λ i. r ≡ Some i)) told given ∙ last_before e
+  last_of_both (Some i) there r e told given = subst (λ (o : Option ℕ). MatchOption o (r ≡ last_place account (take start rows)) (λ k. r ≡ Some k)) told given ∙ last_behind i e
 
 module _ (account : List ℕ) (all : List Fields) (n : ℕ) (room : n ≤ length all) where
   last_within : (i : ℕ) → Some i ≡ last_place account (take n all) → i < n

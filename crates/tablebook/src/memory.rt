@@ -7,7 +7,8 @@ ghost use Rattle.tablebook.specs.Held.{InStep, placed};
 
 use rows::{Account, Fields, is_of};
 
-// The first places are those of the accounts of the kept rows. Both lists are the caller's, by a rule of the project.
+// The first places are those of the accounts of the kept rows.
+// How much of the lists is in use is kept here, since both are the caller's memory, by a rule of the project.
 #[derive(Drop)]
 pub struct Memory<'a> {
     pub rows: &'a mut [Fields],
@@ -58,11 +59,13 @@ impl<'a> Memory<'a> {
         ensures { result ≡ last_place account.now (take end self.now.rows.now) }
     {
         let kept = self.kept as usize;
-        // no `or_else`: of a closure that calls `latest_kept` the check learns nothing
-        match last(&self.rows[kept..end], account) {
-            Some(i) => Some(kept + i),
-            None => self.latest_kept(account),
-        }
+        // its contract is written out, since the check infers none of a closure that calls `latest_kept`
+        let before = ||
+            ensures { result ≡ last_place account.entry.now (take self.entry.now.kept self.entry.now.rows.now) }
+        { self.latest_kept(account) };
+        last(&self.rows[kept..end], account)
+            .map(|i| kept + i)
+            .or_else(before)
     }
 
     // Writes a row behind the kept ones.
@@ -84,16 +87,13 @@ impl<'a> Memory<'a> {
         ensures size { length self.new.places.now ≡ length self.old.places.now }
         ensures places { self.new.places.now ≡ placed (take (self.old.kept + 1) self.old.rows.now) self.old.places.now }
     {
-        match self.rows[self.kept as usize] {
-            Fields::Movement(_) => self.kept += 1,
-            Fields::Statement(statement) => {
-                // an account without a place gets the next one
-                let j = self.find(&statement.account).unwrap_or(self.accounts);
-                self.places[j] = self.kept;
-                self.accounts = self.accounts.max(j + 1);
-                self.kept += 1;
-            }
+        if let Fields::Statement(statement) = self.rows[self.kept as usize] {
+            // an account without a place gets the next one
+            let j = self.find(&statement.account).unwrap_or(self.accounts);
+            self.places[j] = self.kept;
+            self.accounts = self.accounts.max(j + 1);
         }
+        self.kept += 1;
     }
 
     // Keeps the first `end` rows, and places them.

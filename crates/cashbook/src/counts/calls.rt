@@ -1,6 +1,5 @@
 // What the calls of a book do to its numbers, and when they refuse.
 ghost use Rattle.std.specs.Prelude.{◌≡◌};
-ghost use Rattle.std.specs.Result.{result_map_both};
 ghost use Rattle.cashbook.specs.Counting.{figures, counts_result, opened as opened_of, added as added_of, committed as committed_of, cancelled as cancelled_of};
 
 use super::Counts;
@@ -24,12 +23,12 @@ impl Counts {
     pub fn added(&self) -> Result<Counts, BookFault>
         ensures { counts_result result ≡ added_of (figures self.now) }
     {
-        let rows = self.batch.ok_or(BookFault::NoBatch)?;
-        if self.kept + rows == self.capacity {
+        let batch = self.batch.ok_or(BookFault::NoBatch)?;
+        if self.kept + batch == self.capacity {
             return Err(BookFault::NoRoom);
         }
         let mut added = *self;
-        added.batch = Some(rows + 1);
+        added.batch = Some(batch + 1);
         Ok(added)
     }
 
@@ -37,9 +36,8 @@ impl Counts {
     pub fn committed(&self) -> Result<Counts, BookFault>
         ensures { counts_result result ≡ committed_of (figures self.now) }
     {
-        let batch = self.batch.ok_or(BookFault::NoBatch)?;
         let mut committed = *self;
-        committed.kept += batch;
+        committed.kept += self.batch.ok_or(BookFault::NoBatch)?;
         committed.batch = None;
         Ok(committed)
     }

@@ -1,10 +1,12 @@
 // What the numbers of a book are.
-ghost use Rattle.std.specs.Prelude.{◌≡◌, ◌+◌, ◌-◌, ◌≤◌, min, is_some, None};
+ghost use Rattle.std.specs.Prelude.{◌≡◌, ◌+◌, ◌-◌, ◌<◌, ◌≤◌, ◌⊎◌, min, is_some, None, MatchResult};
 ghost use Rattle.std.specs.Option.{unwrap_or};
 ghost use Rattle.cashbook.specs.Counting.{figures, figure, used as used_of};
+ghost use Rattle.cashbook.specs.declared.fault.BookFault.TheVariants.{NoRow};
 
 use super::Counts;
 use crate::MOST_ROWS;
+use crate::fault::BookFault;
 
 impl Counts {
     // A book of no rows where there is memory for `room`; more than 100,000 are not used.
@@ -56,5 +58,15 @@ impl Counts {
         ensures { result ≡ is_some (figures self.now).batch }
     {
         self.batch.is_some()
+    }
+
+    // The place, counted from 0, of kept row `n`.
+    pub fn kept_place(&self, n: u32) -> Result<usize, BookFault>
+        ensures { MatchResult result (λ place. (place + 1 ≡ n) × (place < (figures self.now).kept)) (λ fault. (fault ≡ NoRow) × ((n ≡ 0) ⊎ ((figures self.now).kept < n))) }
+    {
+        if n == 0 || n > self.kept {
+            return Err(BookFault::NoRow);
+        }
+        Ok(n as usize - 1)
     }
 }

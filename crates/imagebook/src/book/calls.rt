@@ -70,10 +70,8 @@ impl<'a> Book for ImageBook<'a> {
     }
 
     fn kept_row(&self, n: u32, into: &mut Row) -> Result<(), BookFault> {
-        if n == 0 || n > self.counts.kept() {
-            return Err(BookFault::NoRow);
-        }
-        *into = self.row(n as usize - 1);
+        let place = self.counts.kept_place(n)?;
+        *into = self.row(place);
         Ok(())
     }
 

@@ -96,10 +96,8 @@ impl<'a> Book for TableBook<'a> {
     }
 
     fn kept_row(&self, n: u32, into: &mut Row) -> Result<(), BookFault> {
-        if n == 0 || n > self.counts.kept() {
-            return Err(BookFault::NoRow);
-        }
-        *into = row_at(self.memory.rows, n as usize - 1);
+        let place = self.counts.kept_place(n)?;
+        *into = row_at(self.memory.rows, place);
         Ok(())
     }
 

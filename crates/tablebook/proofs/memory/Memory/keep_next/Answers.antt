@@ -1,16 +1,7 @@
 use Rattle.std.proofs.Common.{◌+◌, ◌≤◌, max, unwrap_or, refl, ap, ◌∙◌, arith}
 use Rattle.tablebook.proofs.Stepping.{few, keeps_movement, keeps_statement}
-use Rattle.tablebook.proofs.memory.Memory.keep_next.Goals.{After-unwrap_or-j}
+use Rattle.tablebook.proofs.memory.Memory.keep_next.Goals.{After-unwrap_or-j, in_default, in-Statement}
 use Rattle.tablebook.proofs.memory.Memory.keep_next.Goals as goal
-
-pub invariant_of-self : goal.invariant_of-self
-invariant_of-self c =
-    let m = c.args.self.now in
-    let k = keeps_movement m.rows.now m.kept m.accounts m.places.now c.requires.0 m.step _ _ c.in-Movement.is in
-    record { backed = (omega arith, omega arith); step = k.step }
-
-pub returns-in-Movement-clause-places : goal.returns-in-Movement-clause-places
-returns-in-Movement-clause-places c = let m = c.args.self.now in (keeps_movement m.rows.now m.kept m.accounts m.places.now c.requires.0 m.step _ _ c.in-Movement.is).is
 
 -- the place of the row's account stands among those in use, or behind them
 within : (c : After-unwrap_or-j) → c.unwrap_or-j.result ≤ c.args.self.now.kept
@@ -30,16 +21,26 @@ offset_bounds-self-j c = let w = within c in omega arith
 pub overflow_add-j : goal.overflow_add-j
 overflow_add-j c = let w = within c in omega arith
 
-pub invariant_of-self-in-Statement : goal.invariant_of-self-in-Statement
-invariant_of-self-in-Statement c =
+pub invariant_of-self : goal.invariant_of-self
+invariant_of-self c =
     let m = c.args.self.now in
-    let is = c.unwrap_or-j.ensures ∙ ap (λ o. unwrap_or o m.accounts) c.find.ensures in
-    let k = keeps_statement m.rows.now m.kept m.accounts m.places.now c.requires.0 m.step _ _ c.in-Statement.is c.requires.1.0 c.unwrap_or-j.result c.max-self.result is c.max-self.ensures in
-    let l = k.1.long in
-    record { backed = (omega arith, omega arith); step = k.1.step }
+    elim c.match-self.branch [
+      | in_default w ↦ (
+          let k = keeps_movement m.rows.now m.kept m.accounts m.places.now c.requires.0 m.step _ _ w.in_default.is in
+          rw w.self-is record { backed = (omega arith, omega arith); step = k.step })
+      | in-Statement w ↦ (
+          let is = w.unwrap_or-j.ensures ∙ ap (λ o. unwrap_or o m.accounts) w.find.ensures in
+          let k = keeps_statement m.rows.now m.kept m.accounts m.places.now c.requires.0 m.step _ _ w.in-Statement.is c.requires.1.0 w.unwrap_or-j.result w.max-self.result is w.max-self.ensures in
+          let l = k.1.long in
+          rw w.self-is record { backed = (omega arith, omega arith); step = k.1.step })
+    ]
 
-pub returns-in-Statement-clause-places : goal.returns-in-Statement-clause-places
-returns-in-Statement-clause-places c =
+pub returns-clause-places : goal.returns-clause-places
+returns-clause-places c =
     let m = c.args.self.now in
-    let is = c.unwrap_or-j.ensures ∙ ap (λ o. unwrap_or o m.accounts) c.find.ensures in
-    (keeps_statement m.rows.now m.kept m.accounts m.places.now c.requires.0 m.step _ _ c.in-Statement.is c.requires.1.0 c.unwrap_or-j.result c.max-self.result is c.max-self.ensures).1.is
+    elim c.match-self.branch [
+      | in_default w ↦ rw w.self-is (keeps_movement m.rows.now m.kept m.accounts m.places.now c.requires.0 m.step _ _ w.in_default.is).is
+      | in-Statement w ↦ (
+          let is = w.unwrap_or-j.ensures ∙ ap (λ o. unwrap_or o m.accounts) w.find.ensures in
+          rw w.self-is (keeps_statement m.rows.now m.kept m.accounts m.places.now c.requires.0 m.step _ _ w.in-Statement.is c.requires.1.0 w.unwrap_or-j.result w.max-self.result is w.max-self.ensures).1.is)
+    ]
