@@ -39,7 +39,8 @@ fn run(rt: &HostRuntime) -> anyhow::Result<()> {
     files.end()
 }
 
-// What a word is; where it is none, that is told, and the run ends.
+// What a word is; where it is none, that is told, and the run ends. Here and below a match and no `or_else`, whose
+// closure would only move the lines that tell it.
 fn word_of(rt: &HostRuntime, text: &str) -> anyhow::Result<Word> {
     match text.parse::<Word>() {
         Ok(word) => Ok(word),

@@ -16,6 +16,7 @@ pub struct Refusal {
     pub cause: u8,
 }
 
+// A match and no From: a bare number would not say which of the four it is.
 fn statement_number(fault: StatementFault) -> usize
     ensures { result ≡ statement_number fault }
 {
@@ -28,6 +29,7 @@ fn statement_number(fault: StatementFault) -> usize
     }
 }
 
+// A function of its own and no From, since the reader asks for the position alone.
 pub fn statement_position(fault: StatementFault) -> usize
     ensures { result ≡ statement_position fault }
 {

@@ -7,8 +7,8 @@ ghost use Rattle.tablebook.specs.Held.{InStep, placed};
 
 use rows::{Account, Fields, is_of};
 
-// The first places are those of the accounts of the kept rows.
-// How much of the lists is in use is kept here, since both are the caller's memory, by a rule of the project.
+// The first places are those of the accounts of the kept rows. Both lists are the caller's memory, by a rule of the
+// project, so how much of them is in use is kept beside them.
 #[derive(Drop)]
 pub struct Memory<'a> {
     pub rows: &'a mut [Fields],

@@ -60,7 +60,8 @@ impl Counts {
         self.batch.is_some()
     }
 
-    // The place, counted from 0, of kept row `n`.
+    // The place, counted from 0, of kept row `n`. No plainer as one function with that of a slot in a source, which
+    // would take the type of the number and the error.
     pub fn kept_place(&self, n: u32) -> Result<usize, BookFault>
         ensures { MatchResult result (λ place. (place + 1 ≡ n) × (place < (figures self.now).kept)) (λ fault. (fault ≡ NoRow) × ((n ≡ 0) ⊎ ((figures self.now).kept < n))) }
     {

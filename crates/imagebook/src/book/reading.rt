@@ -37,7 +37,7 @@ impl<'a> ImageBook<'a> {
         requires { count ≤ used (figures self.now.counts) }
         ensures { option_map fields_of result ≡ latest_of account.now (image_rows count (memory self.now)) }
     {
-        // a loop, since the search finds no proof of which `i` a `rev().find(..)` or `rposition(..)` on `0..count` gives
+        // a loop, since the check finds no proof of which `i` a `rev().find(..)` or `rposition(..)` on `0..count` gives
         for i in (0..count).rev() {
             if is_statement_of(row_part(self.bytes, i), account) {
                 return Some(self.row(i));
