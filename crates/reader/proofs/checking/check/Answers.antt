@@ -1,6 +1,5 @@
 use Rattle.std.proofs.Common.{◌≡◌, ℕ, ◌+◌, ◌-◌, length, drop, Ok, Err, sym, refl, ap, ◌∙◌, arith, rules}
 use Rattle.std.proofs.lemmas.Result.{err_from_is_err_and}
-use Rattle.grammar.specs.Places.{Place}
 use Rattle.grammar.specs.Steps.{run, ended}
 use Rattle.grammar.proofs.Completing.{the_check}
 use Rattle.grammar.proofs.Judging.{refusals_are_least}
@@ -17,10 +16,6 @@ returns-then-slots-gt-MOST_SLOTS g c =
       least = refusals_are_least;
       same = refl;
     }
-
-pub loop-slot-init : goal.loop-slot-init
-loop-slot-init g c =
-    (refl, ap (λ (p : Place). run p 1 (g.S.Source.slots c.args.source.now)) c.new-state.ensures.means, omega (arith, c.new-state.ensures.read))
 
 pub returns-in_err-read : goal.returns-in_err-read
 returns-in_err-read g c =

@@ -1,6 +1,6 @@
 use Rattle.std.proofs.Common.{◌≡◌, length, take, None, sym, refl, ap, ◌∙◌, subst, arith}
-use Rattle.cashbook.specs.Counting.{Figures, figure, counted}
-use Rattle.images.specs.Images.{image_rows, image_capacity, put_header}
+use Rattle.cashbook.specs.Counting.{Figures, figure}
+use Rattle.images.specs.Images.{image_capacity, put_header}
 use Rattle.images.proofs.Pieces.{length_put_header, head_put_header}
 use Rattle.imagebook.proofs.Standing.{Stands}
 use Rattle.imagebook.proofs.book.ImageBook.new.Goals as goal
@@ -18,12 +18,3 @@ invariant_of-result c =
       headed = λ room. ap (take 32) headed ∙ head_put_header f bytes (omega arith);
       exact = refl;
     })
-
-pub returns : goal.returns
-returns c =
-    let empty = c.empty_counts-counts.ensures in
-    let bytes = c.args.bytes.now in
-    record {
-      empty = ap (λ (g : Figures). counted g (image_rows g.capacity c.write_header.new.bytes)) empty;
-      memory = c.write_header.ensures ∙ ap (λ (g : Figures). put_header g bytes) empty;
-    }

@@ -1,19 +1,11 @@
-use Rattle.std.proofs.Common.{◌≡◌, List, length, set, Err, sym, refl, ap, ◌∙◌, arith}
-use Rattle.std.proofs.lemmas.Result.{err_from_is_err_and}
+use Rattle.std.proofs.Common.{◌≡◌, List, length, set, sym, ap, ◌∙◌, arith}
 use Rattle.rows.specs.declared.fields.Fields.{Fields}
 use Rattle.cashbook.specs.Calls.{adding}
 use Rattle.cashbook.specs.Counting.{figures, used, counted}
 use Rattle.cashbook.specs.Meaning.{all_rows}
-use Rattle.cashbook.proofs.Counting.{Added, added_refused, added_done, all_long, left_by_refusal, left_by_call}
+use Rattle.cashbook.proofs.Counting.{Added, added_done, all_long, left_by_call}
 use Rattle.tablebook.specs.Memory.{means_of, rows_in}
 use Rattle.tablebook.proofs.table.calls.TableBookBook.add.Goals as goal
-
-pub returns-in_err-counts : goal.returns-in_err-counts
-returns-in_err-counts c =
-    let s = c.args.self.now in
-    let p = err_from_is_err_and c.from_residual.result c.from_residual.ensures.1 in
-    let m = added_refused s.counts.capacity s.counts.kept s.memory.rows.now c.args.row.now.fields s.counts.batch c.in_err-counts.field-0.0 s.counts.room s.backed c.in_err-counts.ensures in
-    record { answers = p.1 ∙ (ap Err p.2 ∙ m.answers); leaves = m.leaves; rows = left_by_refusal _ c.in_err-counts.field-0.0 _ (rows_in s) m.answers; places = refl }
 
 pub returns : goal.returns
 returns c =

@@ -1,6 +1,6 @@
-use Rattle.std.proofs.Common.{Ok, refl, ap, ◌∙◌, arith}
+use Rattle.std.proofs.Common.{arith}
 use Rattle.cashbook.specs.Counting.{figures, used}
-use Rattle.cashbook.proofs.Counting.{cancelled_done, cancelled_numbers}
+use Rattle.cashbook.proofs.Counting.{cancelled_numbers}
 use Rattle.rows.specs.Rows.{is_row}
 use Rattle.recordbytes.proofs.Each.{every_fewer}
 use Rattle.tablebook.proofs.table.calls.TableBookBook.cancel.Goals as goal
@@ -10,9 +10,3 @@ invariant_of-self-clause-fine c =
     let s = c.args.self.now in
     let n = cancelled_numbers s.counts.capacity s.counts.kept s.counts.batch (figures c.in_ok-counts.counts) c.in_ok-counts.ensures in
     rw n.used_is (every_fewer is_row (used (figures s.counts)) s.counts.kept s.memory.rows.now (omega arith) s.fine)
-
-pub returns : goal.returns
-returns c =
-    let s = c.args.self.now in
-    let m = cancelled_done s.counts.capacity s.counts.kept s.memory.rows.now s.counts.batch (figures c.in_ok-counts.counts) (let r = s.counts.room in let b = s.backed in omega arith) c.in_ok-counts.ensures in
-    record { answers = ap Ok c.batch-rows.ensures ∙ m.answers; leaves = m.leaves; rows = refl; places = refl }
