@@ -2,7 +2,6 @@
 use Rattle.std.proofs.Common.{◌≡◌, ℕ, ◌+◌, ◌<◌, ◌≤◌, true, false, List, [], ◌∷◌, ◌++◌, length, get_or, take, drop, set, max, unwrap_or, Some, None, Option, sym, refl, ap, ◌∙◌, arith, length-set}
 use Rattle.std.proofs.Math.Seq.{take-set-lt}
 use Rattle.std.proofs.lemmas.List.{length-take-le, take_more, take_more_set, take-append-drop, get_or-take, get_or_default, length_push, drop-set-lt}
-use Rattle.std.proofs.lemmas.Slice.{drop-append-drop}
 use Rattle.std.specs.Str.{bytes_eq}
 use Rattle.rows.specs.declared.fields.Fields.{Fields}
 use Rattle.rows.specs.declared.fields.Fields.TheVariants.{Movement, Statement}
@@ -150,10 +149,6 @@ module _ (rows : List Fields) (count number : ℕ) (held : List ℕ) (room : cou
       keeps_statement j m is most =
           let p = place_of_statement (index_of s.account (accounts (take count rows))) refl in
           rw (most, is) (p.inside, p.keeps)
-
--- the places of more rows, put over those of fewer
-pub placed_again : (kept more : List Fields) (held : List ℕ) → length (places kept) ≤ length (places more) → placed more (placed kept held) ≡ placed more held
-placed_again kept more held fewer = ap (λ ps. places more ++ ps) (drop-append-drop (length (places kept)) held (places kept) (length (places more)) fewer refl)
 
 -- no rows have no places
 pub step_none : (held : List ℕ) → InStep [] 0 held
