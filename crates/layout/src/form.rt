@@ -3,7 +3,7 @@ ghost use Rattle.std.specs.Prelude.{◌≡◌};
 ghost use Rattle.layout.specs.Forms.{among, is_one_of, holds as holds_of};
 ghost use Rattle.layout.specs.Tables.{form_of};
 
-use recordbytes::{Digit, Plain, Space, all_inside};
+use recordbytes::{Plain, Space, all_digits, all_inside};
 use values::is_day;
 
 #[derive(Clone, Copy, PartialEq, Eq, Debug)]
@@ -38,7 +38,7 @@ pub fn holds(form: Form, bytes: &[u8]) -> bool
     ensures { result ≡ holds_of (form_of form) bytes.now }
 {
     match form {
-        Form::Digits => all_inside::<Digit>(bytes),
+        Form::Digits => all_digits(bytes),
         Form::Text => all_inside::<Plain>(bytes),
         Form::Spaces => all_inside::<Space>(bytes),
         Form::Day => is_day(bytes),

@@ -8,14 +8,14 @@ use crate::taking::{Taking, rule};
 use grammar::{Counts, Expect, FileFault, RecordFault, StatementFault};
 use layout::{Kind, first_misformed, kind_of};
 use order::{may_come, may_end};
-use recordbytes::{Plain, RecordBytes, first_outside};
+use recordbytes::{RecordBytes, first_forbidden};
 use refusals::statement_position;
 
 // The kind of a record with no forbidden byte.
 fn told(bytes: &RecordBytes) -> Result<Kind, RecordFault>
     ensures { result ≡ told bytes.now }
 {
-    match first_outside::<Plain>(bytes) {
+    match first_forbidden(bytes) {
         Some(place) => Err(RecordFault::Forbidden(place + 1)),
         None => kind_of(bytes).ok_or(RecordFault::Unknown),
     }

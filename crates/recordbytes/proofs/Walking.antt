@@ -1,6 +1,7 @@
 -- A walk over bytes, turn by turn, for any test.
-use Rattle.std.proofs.Common.{◌≡◌, ℕ, zero, suc, ◌+◌, ◌-◌, ◌<◌, ◌≤◌, Bool, true, false, List, [], ◌∷◌, length, get_or, Some, None, Option, sym, refl, ap, ◌∙◌, ⊎_elim, arith}
+use Rattle.std.proofs.Common.{◌≡◌, ℕ, zero, suc, ◌+◌, ◌-◌, ◌<◌, ◌≤◌, Bool, true, false, cond, not, ◌&&◌, is_some, List, [], ◌∷◌, length, get_or, Some, None, Option, sym, refl, ap, ◌∙◌, ⊎_elim, arith}
 use native.Mathlib.Nat.{sub_self}
+use Rattle.std.proofs.Math.Bool.{not-not}
 use Rattle.std.proofs.lemmas.Bool.{cond-true, and_parts, cond_both, cases_lt}
 use Rattle.recordbytes.specs.Walks.{all, first_failing_from, first_failing, FirstFailing}
 
@@ -8,6 +9,14 @@ use Rattle.recordbytes.specs.Walks.{all, first_failing_from, first_failing, Firs
 pub all_none : (test : ℕ → Bool) (i : ℕ) (bytes : List ℕ) → all test bytes ≡ true → first_failing_from test i bytes ≡ None
 all_none test i [] t = refl
 all_none test i (x ∷ xs) t = let h = and_parts (test x) (all test xs) t in cond-true (test x) (first_failing_from test (i + 1) xs) (Some i) h.0 ∙ all_none test (i + 1) xs h.1
+
+-- no byte fails exactly where all pass
+none_fails : (test : ℕ → Bool) (i : ℕ) (bytes : List ℕ) → is_some (first_failing_from test i bytes) ≡ not (all test bytes)
+none_fails test i [] = refl
+none_fails test i (x ∷ xs) = elim (test x) as (λ v. is_some (cond v (first_failing_from test (i + 1) xs) (Some i)) ≡ not (v && all test xs)) [ true ↦ none_fails test (i + 1) xs | false ↦ refl ]
+
+pub none_all : (test : ℕ → Bool) (bytes : List ℕ) (o : Option ℕ) (r : Bool) → o ≡ first_failing test bytes → is_some o ≡ not r → r ≡ all test bytes
+none_all test bytes o r e t = sym (not-not r) ∙ (ap not (sym t ∙ (ap is_some e ∙ none_fails test 0 bytes)) ∙ not-not (all test bytes))
 
 -- the place of the first byte that fails, counted from i
 abbrev FirstFrom : (ℕ → Bool) → ℕ → List ℕ → Option ℕ → Type 0

@@ -9,7 +9,7 @@ mod walks;
 pub use class::{ByteClass, Digit, Plain, Space};
 pub use numbers::{MOST_DIGITS, digits_write_numbers, number, number_at, write_digits};
 pub use spans::span;
-pub use walks::{all_inside, first_outside};
+pub use walks::{all_digits, all_inside, first_forbidden, first_outside};
 
 // The number of bytes in a record.
 pub const RECORD_LENGTH: usize = 128;
