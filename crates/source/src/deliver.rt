@@ -5,20 +5,21 @@ ghost use Rattle.source.specs.Fetching.{answer, left_in};
 
 use crate::source::{Damage, NoRecord, TOO_LONG, TOO_SHORT};
 use recordbytes::{RECORD_LENGTH, RecordBytes};
-use std::cmp::Ordering;
 
 // Puts the bytes of a slot into `out` if they are a record.
 pub fn deliver(bytes: &[u8], out: &mut RecordBytes) -> Result<(), NoRecord>
     ensures answers { result ≡ answer (Some (judge bytes.now)) }
     ensures writes { out.new ≡ left_in (Some (judge bytes.now)) out.old }
 {
-    let cause = match bytes.len().cmp(&RECORD_LENGTH) {
-        Ordering::Less => TOO_SHORT,
-        Ordering::Greater => TOO_LONG,
-        Ordering::Equal => {
-            out.copy_from_slice(bytes);
-            return Ok(());
-        }
+    // as an array, whose length the copy knows
+    if let Some(record) = bytes.as_array() {
+        *out = *record;
+        return Ok(());
+    }
+    let cause = if bytes.len() < RECORD_LENGTH {
+        TOO_SHORT
+    } else {
+        TOO_LONG
     };
     Err(NoRecord::Damaged(Damage { cause }))
 }
