@@ -11,6 +11,7 @@ pub fn is_of(fields: &Fields, account: &Account) -> bool
 {
     match fields {
         Fields::Movement(_) => false,
-        Fields::Statement(statement) => &statement.account == account,
+        // as slices, which are told apart by their first bytes, where arrays are compared whole
+        Fields::Statement(statement) => statement.account.as_slice() == account.as_slice(),
     }
 }
