@@ -150,14 +150,6 @@ module _ (rows : List Fields) (count number : ℕ) (held : List ℕ) (room : cou
           let p = place_of_statement (index_of s.account (accounts (take count rows))) refl in
           rw (most, is) (p.inside, p.keeps)
 
-      -- it stands among the places in use, or behind them
-      pub place_within : (found : Option ℕ) (j : ℕ) → found ≡ index_of s.account (accounts (take count rows)) → j ≡ unwrap_or found number → j ≤ count
-      place_within found j e is =
-          let p = place_of_statement found (sym e) in
-          let inside = p.inside in
-          let f = few rows count number held (omega arith) step in
-          omega arith
-
 -- no rows have no places
 pub step_none : (held : List ℕ) → InStep [] 0 held
 unfolding places accounts
